@@ -1,7 +1,6 @@
 -- The pieces that a range meets are consecutive. Taking it out leaves a part of the first of them below, and one of the last
 -- above.
-use Rattle.shm_areas.proofs.Names.{nat_tests, sym, ◌≡◌, ◌⊎◌, ℕ, zero, suc, ◌+◌, ◌-◌, ◌<◌, ◌≤◌, true, false, nat_lt, List, [], ◌∷◌, ◌++◌, length, get_or, take, drop, refl, ap, ◌∙◌, arith, append_assoc, append-nil, length-take, length-drop, common_steps, splice, lt-ltb, le-ltb, cases_lt, cases_eq, and_right, get_or_default, end_of, meets, occupied, Piece, bare, bare_all, Arranged, stored_below, stored_above, stored_cut, met, IsPieceRange}
-use Rattle.std.specs.Prelude.{slice_range}
+use Rattle.shm_areas.proofs.Names.{nat_tests, sym, ◌≡◌, ◌⊎◌, ℕ, zero, suc, ◌-◌, ◌<◌, ◌≤◌, true, false, nat_lt, List, [], ◌∷◌, ◌++◌, length, get_or, take, drop, refl, ap, ◌∙◌, arith, append_assoc, append-nil, length-take, length-drop, common_steps, splice, lt-ltb, le-ltb, cases_lt, cases_eq, and_right, get_or_default, end_of, meets, occupied, Piece, bare, bare_all, Arranged, stored_below, stored_above, stored_cut, met, IsPieceRange, slice_range}
 use Rattle.shm_areas.proofs.Placing.{low_bound}
 
 -- one piece

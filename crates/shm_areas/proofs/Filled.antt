@@ -1,10 +1,7 @@
 -- The search for the least gap may begin after addresses at which no large enough gap begins.
-use Rattle.shm_areas.proofs.Names.{◌≡◌, ℕ, zero, suc, ◌+◌, ◌*◌, ◌%◌, ◌<◌, ◌≤◌, ◌⊎◌, inl, inr, true, false, List, [], ◌∷◌, ◌++◌, length, get_or, drop, max, refl, sym, ap, ◌∙◌, arith, common_steps, lt-leb, cases_lt, cases_Bool, both_ways, end_of, meets, parts, occupied, inserted, cut, without_named, first_chosen, lowest_address, gap_from, leb-true, stored_inserted, stored_cut, stored_without, IsPieceRange, Piece, bare, bare_all, Arranged, IsFit}
-use Rattle.std.specs.Prelude.{min, if◌then◌else◌, nat_le}
+use Rattle.shm_areas.proofs.Names.{◌≡◌, ℕ, zero, suc, ◌+◌, ◌*◌, ◌%◌, ◌<◌, ◌≤◌, ◌⊎◌, inl, inr, true, false, List, [], ◌∷◌, ◌++◌, length, get_or, drop, max, refl, sym, ap, ◌∙◌, arith, common_steps, lt-leb, cases_lt, cases_Bool, both_ways, end_of, meets, parts, occupied, inserted, cut, without_named, first_chosen, lowest_address, gap_from, leb-true, stored_inserted, stored_cut, stored_without, IsPieceRange, Piece, bare, bare_all, Arranged, IsFit, IsFilled, flat_map-cons, min, if◌then◌else◌, nat_le}
 use Rattle.shm_base.specs.State as flat
-use Rattle.shm_areas.specs.Gap.{IsFilled}
 use Rattle.shm_areas.proofs.Edits.{lower, bare_inserted, bare_cut, bare_filter, end_upto}
-use Rattle.std.proofs.lemmas.List.Concat.{flat_map-cons}
 use Rattle.shm_areas.proofs.Gaps.{free_below, left_past}
 
 -- THE WALK
@@ -78,7 +75,7 @@ occupied-either (x ∷ xs) ys from to h = grind (arith, common_steps, h, occupie
 
 -- the part of a piece below a range still has the addresses that it had there
 own-part : (a b from to : ℕ) (p : flat.Piece) → IsFit p → from % 4096 ≡ 0 → a < b → b ≤ from → meets a b p ≡ true → occupied (parts from to p) a b ≡ true
-own-part a b from to p fit page lt le m = grind (arith, common_steps, m, end_upto from p fit page)
+own-part a b from to p fit page lt le m = grind (arith, common_steps, m, end_upto from p fit.aligned page)
 
 occupied-cut_below : (low a b from to : ℕ) (ps : List flat.Piece) → Arranged low ps → from % 4096 ≡ 0 → a < b → b ≤ from → occupied ps a b ≡ true → occupied (cut from to ps) a b ≡ true
 occupied-cut_below low a b from to [] ar page lt le full = full

@@ -1,21 +1,12 @@
 -- The search from the first address and from the ends of the reserved ranges finds the least gap beside them.
-use Rattle.shm_areas.proofs.Names.{◌≡◌, ℕ, ◌+◌, ◌*◌, ◌%◌, ◌≤◌, ◌⊎◌, inl, inr, Bool, true, false, nat_le, if◌then◌else◌, List, [], ◌∷◌, ◌++◌, drop, length, map, max, Option, Some, None, MatchOption, refl, sym, ap, ◌∙◌, arith, common_steps, cases_lt, cases_Bool, both_ways, le-leb, lt-leb, leb-true, none-some, false_from_ne_true, end_of, lowest_address, first_chosen, end_address, occupied, is_gap, Arranged, gap_from}
-use Rattle.std.proofs.Common.{subst, eq-eqb}
+use Rattle.shm_areas.proofs.Names.{◌≡◌, ℕ, ◌+◌, ◌*◌, ◌%◌, ◌≤◌, ◌⊎◌, inl, inr, Bool, true, false, nat_le, if◌then◌else◌, List, [], ◌∷◌, ◌++◌, drop, length, map, max, Option, Some, None, MatchOption, refl, sym, ap, ◌∙◌, arith, common_steps, cases_lt, cases_Bool, both_ways, le-leb, lt-leb, leb-true, none-some, false_from_ne_true, end_of, lowest_address, first_chosen, end_address, is_gap, Arranged, gap_from, subst, eq-eqb, All-cons, All-filter, All-head, All-nil, All-tail, choose_beside, is_free_gap, is_reserved, least_where, lesser, ranges_of, AreRanges, free_from, free_from_ends, lesser_of, unless_reserved, IsLeastFreeGap, HasNoFreeGap, is_some, min, ◌==◌, All, IfSome, ◌&&◌, not}
 use Rattle.std.proofs.Math.ListN.{drop_of_length-le}
-use Rattle.std.specs.Prelude.{is_some, min, ◌==◌, All, IfSome, ◌&&◌, not}
-use Rattle.std.proofs.lemmas.List.Elements.{All-cons, All-filter, All-head, All-nil, All-tail}
 use Rattle.shm_base.specs.State.{Piece}
-use Rattle.shm_base.specs.Space.{choose_beside, is_free_gap, is_reserved, least_where, lesser, ranges_of}
 use Rattle.shm_base.specs.declared.guest.HostRange.{HostRange}
 use Rattle.shm_base.specs.Guest.{is_range}
-use Rattle.shm_areas.specs.FreeGap.{AreRanges, free_from, free_from_ends, lesser_of, unless_reserved, IsLeastFreeGap, HasNoFreeGap}
-use Rattle.shm_areas.proofs.Gaps.{end_aligned, free_below, gap_here, left_past, low_gap, met, too_high}
+use Rattle.shm_areas.proofs.Gaps.{Among, NextGap, low_gap, next_gap}
 
 -- THE LEAST OF A LIST
-
-abbrev Among : ℕ → List ℕ → Type 0
-Among b [] = ⊥
-Among b (x ∷ xs) = (b ≡ x) ⊎ Among b xs
 
 among-left : (b : ℕ) (xs ys : List ℕ) → Among b xs → Among b (xs ++ ys)
 among-left b [] ys h = absurd h
@@ -46,101 +37,6 @@ least-none test [] none = refl
 least-none test (x ∷ xs) none = rw (none x) (least-none test xs none)
 
 -- THE SEARCH AMONG THE PIECES FROM AN ADDRESS
-
--- on the way up: the remaining pieces, and that nothing from the first address to this one is a gap
-record Climb (all : List Piece) (pages from c low : ℕ) (ps : List Piece) : Type 0 where
-  arranged : Arranged low ps
-  first : first_chosen ≤ c
-  above : from ≤ c
-  left : (a to : ℕ) → c ≤ a → occupied all a to ≡ occupied ps a to
-  least : (b : ℕ) → from ≤ b → is_gap all pages b ≡ true → c ≤ b
-  aligned : c % 4096 ≡ 0
-
--- the least gap from an address on, which begins there or at the end of a piece
-record IsNextGap (all ps : List Piece) (pages from c base : ℕ) : Type 0 where
-  pub gap : is_gap all pages base ≡ true
-  pub aligned : base % 4096 ≡ 0
-  pub above : from ≤ base
-  pub least : (b : ℕ) → from ≤ b → is_gap all pages b ≡ true → base ≤ b
-  pub among : Among base (c ∷ map end_of ps)
-
-abbrev NextGap : List Piece → List Piece → ℕ → ℕ → ℕ → Option ℕ → Type 0
-NextGap all ps pages from c found = MatchOption found ((b : ℕ) → from ≤ b → is_gap all pages b ≡ false) (λ base. IsNextGap all ps pages from c base)
-
-found-later : (all ps : List Piece) (p : Piece) (pages from c d : ℕ) (found : Option ℕ) → (d ≡ c) ⊎ (d ≡ end_of p) → NextGap all ps pages from d found → NextGap all (p ∷ ps) pages from c found
-found-later all ps p pages from c d None e h = h
-found-later all ps p pages from c d (Some base) e h =
-    record {
-      gap = h.gap;
-      aligned = h.aligned;
-      above = h.above;
-      least = h.least;
-      among = elim h.among [
-        | inl own ↦ elim e [ inl same ↦ inl (own ∙ same) | inr end ↦ inr (inl (own ∙ end)) ]
-        | inr rest ↦ inr (inr rest)
-      ];
-    }
-
-climbed : (all ps : List Piece) (pages from c low : ℕ) → Climb all pages from c low ps → NextGap all ps pages from c (gap_from pages c ps)
-climbed all [] pages from c low w = elim (cases_lt end_address (c + 4096 * pages)) [
-  | inl high ↦ rw (lt-leb (c + 4096 * pages) end_address high) (λ b le. elim (cases_Bool (is_gap all pages b)) [
-    | inl gap ↦ let up = w.least b le gap in too_high all pages b (omega (arith, up, high))
-    | inr none ↦ none
-  ])
-  | inr fits ↦
-      let free : occupied all c (c + 4096 * pages) ≡ false = w.left c (c + 4096 * pages) (omega arith) in
-      rw (le-leb (c + 4096 * pages) end_address fits)
-      (record { gap = gap_here all [] pages c w.first fits free; aligned = w.aligned; above = w.above; least = w.least; among = inl refl })
-]
-climbed all (p ∷ ps) pages from c low w = elim (cases_lt p.base (c + 4096 * pages)) [
-  | inl below ↦ elim (cases_lt c (end_of p)) [
-    | inl over ↦
-        let more : max c (end_of p) ≡ end_of p = omega (arith, over) in
-        let next : Climb all pages from (end_of p) (end_of p) ps = record {
-          arranged = w.arranged.1.1;
-          first = omega (arith, w.first, over);
-          above = omega (arith, w.above, over);
-          left = λ a to le. w.left a to (omega (arith, le, over)) ∙ left_past ps p a to le;
-          least = λ b le gap. elim (cases_lt b (end_of p)) [
-            | inl lt ↦
-                let up = w.least b le gap in
-                let none = met all ps p pages b (w.left b (b + 4096 * pages) up) (omega (arith, below, up)) lt in
-                absurd (both_ways (is_gap all pages b) none gap)
-            | inr ge ↦ ge
-          ];
-          aligned = end_aligned p w.arranged.1.0.aligned;
-        } in
-        rw (lt-leb (c + 4096 * pages) p.base below, more) (found-later all ps p pages from c (end_of p) _ (inr refl) (climbed all ps pages from (end_of p) (end_of p) next))
-    | inr past ↦
-        let same : max c (end_of p) ≡ c = omega (arith, past) in
-        let next : Climb all pages from c (end_of p) ps = record {
-          arranged = w.arranged.1.1;
-          first = w.first;
-          above = w.above;
-          left = λ a to le. w.left a to le ∙ left_past ps p a to (omega (arith, le, past));
-          least = w.least;
-          aligned = w.aligned;
-        } in
-        rw (lt-leb (c + 4096 * pages) p.base below, same) (found-later all ps p pages from c c _ (inl refl) (climbed all ps pages from c (end_of p) next))
-  ]
-  | inr fits ↦
-      let free : occupied all c (c + 4096 * pages) ≡ false = w.left c (c + 4096 * pages) (omega arith) ∙ free_below p.base c (c + 4096 * pages) (p ∷ ps) (omega arith, w.arranged.1) fits in
-      let high : c + 4096 * pages ≤ end_address = omega (arith, fits, w.arranged.1.0.within, w.arranged.1.0.some) in
-      rw (le-leb (c + 4096 * pages) p.base fits)
-      (record { gap = gap_here all (p ∷ ps) pages c w.first high free; aligned = w.aligned; above = w.above; least = w.least; among = inl refl })
-]
-
-next_gap : (ps : List Piece) (pages from : ℕ) → Arranged lowest_address ps → from % 4096 ≡ 0 → NextGap ps ps pages (max from first_chosen) (max from first_chosen) (gap_from pages (max from first_chosen) ps)
-next_gap ps pages from ar page =
-    climbed ps ps pages (max from first_chosen) (max from first_chosen) lowest_address
-    (record {
-      arranged = ar;
-      first = omega arith;
-      above = omega arith;
-      left = λ a to le. refl;
-      least = λ b le gap. le;
-      aligned = omega (arith, page);
-    })
 
 pub gap-room : (pages c low : ℕ) (ps : List Piece) → Arranged low ps → IfSome (gap_from pages c ps) (λ base. base + 4096 * pages ≤ end_address)
 gap-room pages c low [] ar = elim (cases_lt end_address (c + 4096 * pages)) [

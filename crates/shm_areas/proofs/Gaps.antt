@@ -1,117 +1,180 @@
 -- Going up the pieces finds the least gap of the definition.
-use Rattle.shm_areas.proofs.Names.{Option, ◌≡◌, ℕ, ◌+◌, ◌*◌, ◌%◌, ◌<◌, ◌≤◌, ◌⊎◌, inl, inr, Bool, true, false, List, [], ◌∷◌, length, get_or, map, find, max, MatchOption, refl, ◌∙◌, arith, drop, drop-cons, add-one, common_steps, le-leb, lt-leb, cases_lt, false_from_ne_true, and_right, both_ways, end_of, lowest_address, first_chosen, end_address, occupied, is_gap, choose, Stored, bare, bare_all, Arranged, gap_from, IsLeastGap, HasNoGap}
+use Rattle.shm_areas.proofs.Names.{Some, None, cases_Bool, sym, ap, Option, ◌≡◌, ℕ, ◌+◌, ◌*◌, ◌%◌, ◌<◌, ◌≤◌, ◌⊎◌, inl, inr, Bool, true, false, List, [], ◌∷◌, length, get_or, map, find, max, MatchOption, refl, ◌∙◌, arith, drop, drop-cons, add-one, common_steps, le-leb, lt-leb, cases_lt, false_from_ne_true, and_right, both_ways, end_of, lowest_address, first_chosen, end_address, occupied, is_gap, choose, Stored, bare, bare_all, Arranged, gap_from, IsLeastGap, HasNoGap, subst}
 use Rattle.shm_base.specs.State.{Piece}
 
 pub free_below : (low from to : ℕ) (ps : List Piece) → Arranged low ps → to ≤ low → occupied ps from to ≡ false
 free_below low from to [] ar le = refl
 free_below low from to (p ∷ ps) ar le = grind (arith, common_steps, free_below (end_of p) from to ps ar.1.1)
 
-pub gap_here : (all ps : List Piece) (pages c : ℕ) → first_chosen ≤ c → c + 4096 * pages ≤ end_address
+gap_here : (all ps : List Piece) (pages c : ℕ) → first_chosen ≤ c → c + 4096 * pages ≤ end_address
     → occupied all c (c + 4096 * pages) ≡ false → is_gap all pages c ≡ true
 gap_here all ps pages c low high free = rw (le-leb first_chosen c low, le-leb (c + 4096 * pages) end_address high, free) refl
 
 -- a piece that begins below the end of a range and ends above its beginning is in the way
-pub met : (all ps : List Piece) (p : Piece) (pages b : ℕ) → occupied all b (b + 4096 * pages) ≡ occupied (p ∷ ps) b (b + 4096 * pages)
+met : (all ps : List Piece) (p : Piece) (pages b : ℕ) → occupied all b (b + 4096 * pages) ≡ occupied (p ∷ ps) b (b + 4096 * pages)
     → p.base < b + 4096 * pages → b < end_of p → is_gap all pages b ≡ false
 met all ps p pages b same below above = grind (arith, common_steps)
 
-pub too_high : (all : List Piece) (pages b : ℕ) → end_address < b + 4096 * pages → is_gap all pages b ≡ false
+too_high : (all : List Piece) (pages b : ℕ) → end_address < b + 4096 * pages → is_gap all pages b ≡ false
 too_high all pages b high = rw (lt-leb (b + 4096 * pages) end_address high) (grind arith)
 
-pub too_low : (all : List Piece) (pages b : ℕ) → b < first_chosen → is_gap all pages b ≡ false
+too_low : (all : List Piece) (pages b : ℕ) → b < first_chosen → is_gap all pages b ≡ false
 too_low all pages b low = rw (lt-leb first_chosen b low) refl
-
--- on the way up: the remaining pieces, and that nothing below is a gap
-pub record Walk (all : List Piece) (pages c low : ℕ) (ps : List Piece) : Type 0 where
-  pub arranged : Arranged low ps
-  pub first : first_chosen ≤ c
-  pub order : (c ≡ first_chosen) ⊎ (c ≤ low)
-  pub left : (from to : ℕ) → c ≤ from → occupied all from to ≡ occupied ps from to
-  pub least : (b : ℕ) → is_gap all pages b ≡ true → c ≤ b
-  pub aligned : c % 4096 ≡ 0
-
-pub still_first : (c low e : ℕ) → (c ≡ first_chosen) ⊎ (c ≤ low) → low < e → e ≤ c → c ≡ first_chosen
-still_first c low e (inl h) lt le = h
-still_first c low e (inr h) lt le = absurd (omega (arith, h))
 
 pub left_past : (ps : List Piece) (p : Piece) (from to : ℕ) → end_of p ≤ from → occupied (p ∷ ps) from to ≡ occupied ps from to
 left_past ps p from to le = grind (arith, common_steps, and_right)
 
-pub least_over : (all ps : List Piece) (p : Piece) (pages c b : ℕ) → p.base < c + 4096 * pages
-    → ((from to : ℕ) → c ≤ from → occupied all from to ≡ occupied (p ∷ ps) from to)
-    → c ≤ b → is_gap all pages b ≡ true → (b < end_of p) ⊎ (end_of p ≤ b) → end_of p ≤ b
-least_over all ps p pages c b below left low gap (inr h) = h
-least_over all ps p pages c b below left low gap (inl h) = grind (arith, common_steps, met, both_ways)
-
-pub walk_past : (all ps : List Piece) (p : Piece) (pages c low : ℕ) → Walk all pages c low (p ∷ ps) → end_of p ≤ c → Walk all pages c (end_of p) ps
-walk_past all ps p pages c low w le = grind (arith, common_steps, still_first, left_past)
-
-pub end_aligned : (p : Piece) → p.base % 4096 ≡ 0 → end_of p % 4096 ≡ 0
+end_aligned : (p : Piece) → p.base % 4096 ≡ 0 → end_of p % 4096 ≡ 0
 end_aligned p e = omega (arith, e)
-
-pub walk_over : (all ps : List Piece) (p : Piece) (pages c low : ℕ) → Walk all pages c low (p ∷ ps) → p.base < c + 4096 * pages → c < end_of p
-    → Walk all pages (end_of p) (end_of p) ps
-walk_over all ps p pages c low w below lt = grind (arith, common_steps, left_past, least_over, end_aligned)
-
-pub find_past : (g : ℕ → Bool) (c e : ℕ) (es : List ℕ) → (e ≡ c) ⊎ (g e ≡ false) → find g (c ∷ es) ≡ find g (c ∷ e ∷ es)
-find_past g c e es (inl h) = grind (arith, h)
-find_past g c e es (inr h) = rw h refl
-
-pub past_or_low : (all : List Piece) (pages c e : ℕ) → c ≡ first_chosen → e ≤ c → (e < c) ⊎ (c ≤ e) → (e ≡ c) ⊎ (is_gap all pages e ≡ false)
-past_or_low all pages c e h le (inl lt) = inr (too_low all pages e (omega (arith, h, lt)))
-past_or_low all pages c e h le (inr ge) = inl (omega (arith, le, ge))
-
-pub fits_here : (all ps : List Piece) (p : Piece) (pages c low : ℕ) → Walk all pages c low (p ∷ ps) → c + 4096 * pages ≤ p.base → is_gap all pages c ≡ true
-fits_here all ps p pages c low w fits = grind (arith, common_steps, gap_here, free_below)
-
-pub none_left : (all : List Piece) (pages c : ℕ) → ((b : ℕ) → is_gap all pages b ≡ true → c ≤ b) → end_address < c + 4096 * pages → HasNoGap all pages
-none_left all pages c least high b = grind (arith, common_steps, false_from_ne_true, too_high)
-
--- the search finds what the definition does: the least gap
-pub record IsWalked (all ps : List Piece) (pages c : ℕ) (found : Option ℕ) : Type 0 where
-  pub same : found ≡ find (is_gap all pages) (c ∷ map end_of ps)
-  pub law : MatchOption found (HasNoGap all pages) (λ base. IsLeastGap all pages base)
-
-pub walked : (all ps : List Piece) (pages c low : ℕ) → Walk all pages c low ps → IsWalked all ps pages c (gap_from pages c ps)
-walked all [] pages c low w = record {
-  same = grind (arith, common_steps, too_high, lt-leb, gap_here, le-leb);
-  law = grind (arith, common_steps, lt-leb, none_left, le-leb, gap_here);
-}
-walked all (p ∷ ps) pages c low w =
-    elim (cases_lt p.base (c + 4096 * pages)) [
-      | inl below ↦ elim (cases_lt c (end_of p)) [
-        | inl over ↦
-            let more : max c (end_of p) ≡ end_of p = omega (arith, over) in
-            let none = met all ps p pages c (w.left c (c + 4096 * pages) (omega arith)) below over in
-            let rest = walked all ps pages (end_of p) (end_of p) (walk_over all ps p pages c low w below over) in
-            rw (lt-leb (c + 4096 * pages) p.base below, more) (record { same = rw none rest.same; law = rest.law })
-        | inr past ↦
-            let same : max c (end_of p) ≡ c = omega (arith, past) in
-            let rest = walked all ps pages c (end_of p) (walk_past all ps p pages c low w past) in
-            let base : low ≤ p.base = w.arranged.0 in
-            let some : 1 ≤ p.pages = w.arranged.1.0.some in
-            let start : c ≡ first_chosen = still_first c low (end_of p) w.order (omega (arith, base, some)) past in
-            let next = past_or_low all pages c (end_of p) start past (cases_lt (end_of p) c) in
-            rw (lt-leb (c + 4096 * pages) p.base below, same)
-            (record { same = rest.same ∙ find_past (is_gap all pages) c (end_of p) (map end_of ps) next; law = rest.law })
-      ]
-      | inr fits ↦
-          let here = fits_here all ps p pages c low w fits in
-          rw (le-leb (c + 4096 * pages) p.base fits) (record { same = rw here refl; law = record { gap = here; aligned = w.aligned; least = w.least } })
-    ]
 
 pub low_gap : (all : List Piece) (pages b : ℕ) → is_gap all pages b ≡ true → (b < first_chosen) ⊎ (first_chosen ≤ b) → first_chosen ≤ b
 low_gap all pages b gap (inr h) = h
 low_gap all pages b gap (inl h) = let none : is_gap all pages b ≡ false = too_low all pages b h in absurd (both_ways _ none gap)
 
-pub start : (ps : List Piece) (pages : ℕ) → Arranged lowest_address ps → Walk ps pages first_chosen lowest_address ps
-start ps pages ar = grind (arith, common_steps, low_gap)
+-- an element of a list
+abbrev pub Among : ℕ → List ℕ → Type 0
+Among b [] = ⊥
+Among b (x ∷ xs) = (b ≡ x) ⊎ Among b xs
 
-pub choose_is : (ps : List Piece) (pages : ℕ) → Arranged lowest_address ps → gap_from pages first_chosen ps ≡ choose ps pages
-choose_is ps pages ar = (walked ps ps pages first_chosen lowest_address (start ps pages ar)).same
+-- on the way up: the remaining pieces, and that nothing from the first address to this one is a gap
+record Climb (all : List Piece) (pages from c low : ℕ) (ps : List Piece) : Type 0 where
+  arranged : Arranged low ps
+  first : first_chosen ≤ c
+  above : from ≤ c
+  left : (a to : ℕ) → c ≤ a → occupied all a to ≡ occupied ps a to
+  least : (b : ℕ) → from ≤ b → is_gap all pages b ≡ true → c ≤ b
+  aligned : c % 4096 ≡ 0
 
-pub gap_is_least : (ps : List Piece) (pages : ℕ) → Arranged lowest_address ps → MatchOption (gap_from pages first_chosen ps) (HasNoGap ps pages) (λ base. IsLeastGap ps pages base)
-gap_is_least ps pages ar = (walked ps ps pages first_chosen lowest_address (start ps pages ar)).law
+-- the least gap from an address on, which begins there or at the end of a piece
+pub record IsNextGap (all ps : List Piece) (pages from c base : ℕ) : Type 0 where
+  pub gap : is_gap all pages base ≡ true
+  pub aligned : base % 4096 ≡ 0
+  pub above : from ≤ base
+  pub least : (b : ℕ) → from ≤ b → is_gap all pages b ≡ true → base ≤ b
+  pub among : Among base (c ∷ map end_of ps)
+
+abbrev pub NextGap : List Piece → List Piece → ℕ → ℕ → ℕ → Option ℕ → Type 0
+NextGap all ps pages from c found = MatchOption found ((b : ℕ) → from ≤ b → is_gap all pages b ≡ false) (λ base. IsNextGap all ps pages from c base)
+
+found-later : (all ps : List Piece) (p : Piece) (pages from c d : ℕ) (found : Option ℕ) → (d ≡ c) ⊎ (d ≡ end_of p) → NextGap all ps pages from d found → NextGap all (p ∷ ps) pages from c found
+found-later all ps p pages from c d None e h = h
+found-later all ps p pages from c d (Some base) e h =
+    record {
+      gap = h.gap;
+      aligned = h.aligned;
+      above = h.above;
+      least = h.least;
+      among = elim h.among [
+        | inl own ↦ elim e [ inl same ↦ inl (own ∙ same) | inr end ↦ inr (inl (own ∙ end)) ]
+        | inr rest ↦ inr (inr rest)
+      ];
+    }
+
+climbed : (all ps : List Piece) (pages from c low : ℕ) → Climb all pages from c low ps → NextGap all ps pages from c (gap_from pages c ps)
+climbed all [] pages from c low w = elim (cases_lt end_address (c + 4096 * pages)) [
+  | inl high ↦ rw (lt-leb (c + 4096 * pages) end_address high) (λ b le. elim (cases_Bool (is_gap all pages b)) [
+    | inl gap ↦ let up = w.least b le gap in too_high all pages b (omega (arith, up, high))
+    | inr none ↦ none
+  ])
+  | inr fits ↦
+      let free : occupied all c (c + 4096 * pages) ≡ false = w.left c (c + 4096 * pages) (omega arith) in
+      rw (le-leb (c + 4096 * pages) end_address fits)
+      (record { gap = gap_here all [] pages c w.first fits free; aligned = w.aligned; above = w.above; least = w.least; among = inl refl })
+]
+climbed all (p ∷ ps) pages from c low w = elim (cases_lt p.base (c + 4096 * pages)) [
+  | inl below ↦ elim (cases_lt c (end_of p)) [
+    | inl over ↦
+        let more : max c (end_of p) ≡ end_of p = omega (arith, over) in
+        let next : Climb all pages from (end_of p) (end_of p) ps = record {
+          arranged = w.arranged.1.1;
+          first = omega (arith, w.first, over);
+          above = omega (arith, w.above, over);
+          left = λ a to le. w.left a to (omega (arith, le, over)) ∙ left_past ps p a to le;
+          least = λ b le gap. elim (cases_lt b (end_of p)) [
+            | inl lt ↦
+                let up = w.least b le gap in
+                let none = met all ps p pages b (w.left b (b + 4096 * pages) up) (omega (arith, below, up)) lt in
+                absurd (both_ways (is_gap all pages b) none gap)
+            | inr ge ↦ ge
+          ];
+          aligned = end_aligned p w.arranged.1.0.aligned;
+        } in
+        rw (lt-leb (c + 4096 * pages) p.base below, more) (found-later all ps p pages from c (end_of p) _ (inr refl) (climbed all ps pages from (end_of p) (end_of p) next))
+    | inr past ↦
+        let same : max c (end_of p) ≡ c = omega (arith, past) in
+        let next : Climb all pages from c (end_of p) ps = record {
+          arranged = w.arranged.1.1;
+          first = w.first;
+          above = w.above;
+          left = λ a to le. w.left a to le ∙ left_past ps p a to (omega (arith, le, past));
+          least = w.least;
+          aligned = w.aligned;
+        } in
+        rw (lt-leb (c + 4096 * pages) p.base below, same) (found-later all ps p pages from c c _ (inl refl) (climbed all ps pages from c (end_of p) next))
+  ]
+  | inr fits ↦
+      let free : occupied all c (c + 4096 * pages) ≡ false = w.left c (c + 4096 * pages) (omega arith) ∙ free_below p.base c (c + 4096 * pages) (p ∷ ps) (omega arith, w.arranged.1) fits in
+      let high : c + 4096 * pages ≤ end_address = omega (arith, fits, w.arranged.1.0.within, w.arranged.1.0.some) in
+      rw (le-leb (c + 4096 * pages) p.base fits)
+      (record { gap = gap_here all (p ∷ ps) pages c w.first high free; aligned = w.aligned; above = w.above; least = w.least; among = inl refl })
+]
+
+pub next_gap : (ps : List Piece) (pages from : ℕ) → Arranged lowest_address ps → from % 4096 ≡ 0 → NextGap ps ps pages (max from first_chosen) (max from first_chosen) (gap_from pages (max from first_chosen) ps)
+next_gap ps pages from ar page =
+    climbed ps ps pages (max from first_chosen) (max from first_chosen) lowest_address
+    (record {
+      arranged = ar;
+      first = omega arith;
+      above = omega arith;
+      left = λ a to le. refl;
+      least = λ b le gap. le;
+      aligned = omega (arith, page);
+    })
+
+-- WHAT THE DEFINITION CHOOSES
+
+-- the pieces end one after the other
+ends_above : (b low : ℕ) (ps : List Piece) → Arranged low ps → Among b (map end_of ps) → low < b
+ends_above b low [] ar h = absurd h
+ends_above b low (p ∷ ps) ar (inl h) = omega (arith, ar.0, ar.1.0.some, h)
+ends_above b low (p ∷ ps) ar (inr h) = let rest = ends_above b (end_of p) ps ar.1.1 h in omega (arith, ar.0, rest)
+
+-- so the least of them that passes is the first
+first_end : (test : ℕ → Bool) (b low : ℕ) (ps : List Piece) → Arranged low ps → test b ≡ true → ((x : ℕ) → test x ≡ true → b ≤ x) → Among b (map end_of ps) → find test (map end_of ps) ≡ Some b
+first_end test b low [] ar own least h = absurd h
+first_end test b low (p ∷ ps) ar own least (inl h) = rw (← h, own) refl
+first_end test b low (p ∷ ps) ar own least (inr h) = elim (cases_Bool (test (end_of p))) [
+  | inl passes ↦ absurd (let above = ends_above b (end_of p) ps ar.1.1 h in omega (arith, above, least (end_of p) passes))
+  | inr fails ↦ rw fails (first_end test b (end_of p) ps ar.1.1 own least h)
+]
+
+none_found : (test : ℕ → Bool) (xs : List ℕ) → ((x : ℕ) → test x ≡ false) → find test xs ≡ None
+none_found test [] none = refl
+none_found test (x ∷ xs) none = rw (none x) (none_found test xs none)
+
+-- the search finds what the definition does: the least gap
+pub record IsChosen (ps : List Piece) (pages : ℕ) (found : Option ℕ) : Type 0 where
+  pub same : found ≡ choose ps pages
+  pub law : MatchOption found (HasNoGap ps pages) (λ base. IsLeastGap ps pages base)
+
+chosen : (ps : List Piece) (pages : ℕ) (o : Option ℕ) → Arranged lowest_address ps → NextGap ps ps pages first_chosen first_chosen o → IsChosen ps pages o
+chosen ps pages None ar h =
+    let none = λ (b : ℕ). false_from_ne_true (is_gap ps pages b) (λ gap. both_ways (is_gap ps pages b) (h b (low_gap ps pages b gap (cases_lt b first_chosen))) gap) in
+    record { same = sym (none_found (is_gap ps pages) (first_chosen ∷ map end_of ps) none); law = none }
+chosen ps pages (Some base) ar h = record { same = sym (first h.among); law = record { gap = h.gap; aligned = h.aligned; least = least } }
+  where
+    least : (b : ℕ) → is_gap ps pages b ≡ true → base ≤ b
+    least b gap = h.least b (low_gap ps pages b gap (cases_lt b first_chosen)) gap
+
+    first : Among base (first_chosen ∷ map end_of ps) → choose ps pages ≡ Some base
+    first (inl own) = let passes : is_gap ps pages first_chosen ≡ true = subst (λ a. is_gap ps pages a ≡ true) own h.gap in rw passes (ap Some (sym own))
+    first (inr end) = elim (cases_Bool (is_gap ps pages first_chosen)) [
+      | inl passes ↦ rw passes (ap Some (let le = least first_chosen passes in omega (arith, le, h.above)))
+      | inr fails ↦ rw fails (first_end (is_gap ps pages) base lowest_address ps ar h.gap least end)
+    ]
+
+pub chosen_gap : (ps : List Piece) (pages : ℕ) → Arranged lowest_address ps → IsChosen ps pages (gap_from pages first_chosen ps)
+chosen_gap ps pages ar = chosen ps pages (gap_from pages first_chosen ps) ar (next_gap ps pages 0 ar refl)
 
 pub gap_step : (ps : List Stored) (i pages base : ℕ) (d : Stored) → i < length ps → (get_or ps i d).base < base + 4096 * pages
     → gap_from pages base (bare_all (drop i ps)) ≡ gap_from pages (max base (end_of (bare (get_or ps i d)))) (bare_all (drop (i + 1) ps))

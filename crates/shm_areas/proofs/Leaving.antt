@@ -1,8 +1,5 @@
 -- Only the first and the last of the pieces that a range meets leave a part.
-use Rattle.shm_areas.proofs.Names.{◌≡◌, ℕ, suc, ◌-◌, ◌<◌, ◌≤◌, true, List, [], ◌∷◌, ◌++◌, length, get_or, refl, arith, common_steps, end_of, meets, Piece, bare, bare_all, Arranged, met}
-use Rattle.std.specs.Prelude.{All}
-use Rattle.std.proofs.lemmas.List.Elements.{All-head, All-tail}
-use Rattle.shm_base.specs.Space.{rest_segments}
+use Rattle.shm_areas.proofs.Names.{◌≡◌, ℕ, suc, ◌-◌, ◌<◌, ◌≤◌, true, List, [], ◌∷◌, ◌++◌, length, get_or, refl, arith, common_steps, end_of, meets, Piece, bare, bare_all, Arranged, met, All, All-head, All-tail, rest_segments}
 
 Meets : ℕ → ℕ → Piece → Type 0
 Meets from to p = meets from to (bare p) ≡ true

@@ -1,13 +1,6 @@
 -- The piece with an origin, among the stored pieces and among what they show.
-use Rattle.shm_areas.proofs.Names.{◌≡◌, ◌∙◌, sym, ap, ℕ, zero, suc, ◌+◌, ◌*◌, ◌<◌, ◌≤◌, Bool, true, false, cond, Some, find, option_map, None, List, [], ◌∷◌, ◌++◌, ◌-◌, length, get_or, take, drop, refl, arith, ne_eqb, inl, inr, cases_Bool, has_origin, origin_of, stored_named, stored_without, Piece, bare, bare_all}
-use Rattle.std.specs.Prelude.{Option, slice_range}
+use Rattle.shm_areas.proofs.Names.{◌≡◌, ◌∙◌, sym, ap, ℕ, zero, suc, ◌+◌, ◌*◌, ◌<◌, ◌≤◌, Bool, true, false, cond, Some, find, option_map, None, List, [], ◌∷◌, ◌++◌, ◌-◌, length, get_or, take, drop, refl, arith, ne_eqb, inl, inr, cases_Bool, has_origin, origin_of, stored_named, stored_without, Piece, bare, bare_all, append_assoc, drop-cons, set, take_more_set, drop-set-lt, All-head, All-tail, AreWithin, taken_between, IsOriginRange, Option, slice_range}
 use Rattle.shm_base.specs.State as flat
-use Rattle.std.proofs.Common.{append_assoc, drop-cons, set}
-use Rattle.std.proofs.lemmas.List.{take_more_set, drop-set-lt}
-use Rattle.std.proofs.lemmas.List.Elements.{All-head, All-tail}
-use Rattle.shm_areas.specs.Arranged.{AreWithin}
-use Rattle.shm_areas.specs.Edit.{taken_between}
-use Rattle.shm_areas.specs.Met.{IsOriginRange}
 
 -- the stored piece shows the piece that the flat machine finds
 pub stored_origin : (addr : ℕ) (ps : List Piece) → option_map bare (find (λ (p : Piece). has_origin addr (bare p)) ps) ≡ origin_of addr (bare_all ps)

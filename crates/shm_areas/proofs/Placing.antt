@@ -1,5 +1,7 @@
 -- Pieces in order: the one that has an address.
-use Rattle.shm_areas.proofs.Names.{◌≡◌, ℕ, zero, suc, ◌+◌, ◌<◌, ◌≤◌, true, false, nat_le, nat_lt, if◌then◌else◌, List, [], ◌∷◌, length, get_or, Option, Some, None, option_map, IfSome, refl, sym, arith, common_steps, le-leb, and_right, none-some, place, place_by, end_of, Piece, bare, bare_all, IsFit, Arranged, covering, occupied, end_address}
+use Rattle.shm_areas.proofs.Names.{ap, length-map, ◌≡◌, ℕ, zero, suc, ◌+◌, ◌<◌, ◌≤◌, true, false, nat_le, nat_lt, if◌then◌else◌, List, [], ◌∷◌, length, get_or, Option, Some, None, option_map, IfSome, refl, sym, arith, common_steps, le-leb, and_right, none-some, place, place_by, end_of, Piece, bare, bare_all, IsFit, Arranged, covering, occupied, end_address, get_or-map, covers}
+use Rattle.shm_areas.proofs.Edits.{all_above, all_kind}
+use Rattle.shm_areas.proofs.Passing.{found-passes}
 use Rattle.std.specs.List.Sorted.{IsNonDecreasingBy}
 use Rattle.shm_base.specs.State as flat
 
@@ -7,10 +9,13 @@ use Rattle.shm_base.specs.State as flat
 abbrev pub nothing : Piece
 nothing = record { base = 0; seg = 0; first_page = 0; pages = 0; writable = false; may_write = false; key = 0 }
 
+pub bare-get_or : (ps : List Piece) (k : ℕ) (d : Piece) (e : flat.Piece) → k < length ps → bare (get_or ps k d) ≡ get_or (bare_all ps) k e
+bare-get_or ps k d e l = grind (arith, common_steps, get_or-map)
+
 pub low_bound : (low : ℕ) (ps : List Piece) (j : ℕ) (d : Piece) → Arranged low (bare_all ps) → j < length ps → low ≤ (get_or ps j d).base
-low_bound low [] j d ar lt = absurd (omega arith)
-low_bound low (p ∷ ps) zero d ar lt = ar.0
-low_bound low (p ∷ ps) (suc j) d ar lt = grind (arith, common_steps, low_bound (end_of (bare p)) ps j d ar.1.1)
+low_bound low ps j d ar lt =
+    let at = ap (λ (p : flat.Piece). p.base) (bare-get_or ps j d (bare d) lt) in
+    omega (arith, at, all_above IsFit low (bare_all ps) ar j (bare d) (omega (arith, lt, length-map ps bare)))
 
 pub rising : (low : ℕ) (ps : List Piece) → Arranged low (bare_all ps) → IsNonDecreasingBy (λ (p : Piece). p.base) ps
 rising low [] ar i j d le lt = absurd (omega arith)
@@ -54,9 +59,7 @@ place_covering a [] = refl
 place_covering a (p ∷ ps) = grind (arith, place_covering a ps)
 
 pub fit_at : (low : ℕ) (ps : List Piece) (j : ℕ) (d : Piece) → Arranged low (bare_all ps) → j < length ps → IsFit (bare (get_or ps j d))
-fit_at low [] j d ar lt = absurd (omega arith)
-fit_at low (p ∷ ps) zero d ar lt = ar.1.0
-fit_at low (p ∷ ps) (suc j) d ar lt = fit_at (end_of (bare p)) ps j d ar.1.1 (omega arith)
+fit_at low ps j d ar lt = rw (bare-get_or ps j d (bare d) lt) (all_kind IsFit low (bare_all ps) ar j (bare d) (omega (arith, lt, length-map ps bare)))
 
 -- no piece reaches beyond the last address
 pub free_beyond : (low from to : ℕ) (ps : List Piece) → Arranged low (bare_all ps) → end_address ≤ from → occupied (bare_all ps) from to ≡ false
@@ -68,8 +71,7 @@ free_beyond low from to (p ∷ ps) ar beyond =
 -- ALONE: an address is in at most one piece
 
 pub covering_low : (a low : ℕ) (ps : List flat.Piece) (p : flat.Piece) → Arranged low ps → covering a ps ≡ Some p → low ≤ p.base
-covering_low a low [] p ar found = absurd (none-some p found)
-covering_low a low (q ∷ ps) p ar found = grind (arith, common_steps, covering_low a (end_of q) ps p ar.1.1)
+covering_low a low ps p ar found = found-passes (λ (q : flat.Piece). low ≤ q.base) (λ (q : flat.Piece). covers q a) ps p (all_above IsFit low ps ar) found
 
 -- the piece with an address has all of its other addresses too
 pub covering_whole : (a b low : ℕ) (ps : List flat.Piece) (p : flat.Piece) → Arranged low ps → covering a ps ≡ Some p → p.base ≤ b → b < end_of p → covering b ps ≡ Some p

@@ -1,9 +1,6 @@
 -- The first address whose page has no frame, when one page serves several addresses.
-use Rattle.shm_attach.proofs.Names.{◌≡◌, ℕ, zero, suc, ◌+◌, ◌/◌, ◌%◌, ◌<◌, ◌≤◌, Bool, true, false, List, Option, Some, None, refl, arith, All, Slab, get, covering, place_covering, bare, IsCovering, Stored, TableView, HasTable, AllTrue, frame_in, size_in}
-use Rattle.std.specs.Prelude.{is_some}
+use Rattle.shm_attach.proofs.Names.{◌≡◌, ℕ, zero, suc, ◌+◌, ◌/◌, ◌%◌, ◌<◌, ◌≤◌, Bool, true, false, List, Option, Some, None, refl, arith, All, Slab, get, covering, place_covering, bare, IsCovering, Stored, TableView, HasTable, AllTrue, frame_in, size_in, is_some, place_by, first_absent}
 use Rattle.shm_base.specs.State.{Piece}
-use Rattle.shm_base.specs.Access.{place_by}
-use Rattle.shm_attach.specs.Failing.{first_absent}
 use Rattle.shm_attach.proofs.HavingTables.{frame-true, table-of}
 
 module _ (frame : ℕ → ℕ → Option ℕ) (ps : List Piece) where

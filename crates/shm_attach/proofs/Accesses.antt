@@ -1,5 +1,5 @@
 -- An access within one page uses consecutive bytes of one piece; one over two pages uses the places of both.
-use Rattle.shm_attach.proofs.Names.{◌≡◌, inl, inr, ℕ, zero, suc, ◌+◌, ◌-◌, ◌*◌, ◌%◌, ◌<◌, ◌≤◌, Bool, true, false, ◌&&◌, List, [], ◌∷◌, ◌++◌, map, Option, Some, None, option_map, refl, ap, subst, ◌∙◌, arith, common_steps, All, cases_Bool, none-some, map-append, Place, places, joined, covers, all_writable, only_writable, covering, place_covering, run, unmarked, wanted_in}
+use Rattle.shm_attach.proofs.Names.{◌≡◌, ℕ, zero, suc, ◌+◌, ◌-◌, ◌*◌, ◌%◌, ◌<◌, ◌≤◌, Bool, true, false, ◌&&◌, List, [], ◌∷◌, ◌++◌, map, Option, Some, None, option_map, refl, ap, ◌∙◌, arith, common_steps, All, map-append, Place, places, joined, covers, all_writable, only_writable, covering, place_covering, run, unmarked, wanted_in, found-passes}
 use Rattle.shm_base.specs.State.{Piece}
 
 -- TWO PARTS OF AN ACCESS
@@ -88,12 +88,7 @@ wanted_in-readonly ps p a (suc n) some found only = grind (arith, common_steps, 
 
 -- a property of all pieces holds for the one with an address
 pub covering-passes : (P : Piece → Type 0) (a : ℕ) (ps : List Piece) (p : Piece) → All P ps → covering a ps ≡ Some p → P p
-covering-passes P a [] p all found = absurd (none-some p found)
-covering-passes P a (q ∷ ps) p all found =
-    elim (cases_Bool (covers q a)) [
-      | inl h ↦ let same : q ≡ p = cc (rw h at found) in subst P same (all 0 q (omega arith))
-      | inr h ↦ covering-passes P a ps p (λ k d l. all (suc k) d (omega arith)) (rw h at found)
-    ]
+covering-passes P a ps p all found = found-passes P (λ (q : Piece). covers q a) ps p all found
 
 -- the addresses of a page are on one side of a page boundary
 pub in_page : (base pages a b n : ℕ) → base % 4096 ≡ 0 → base ≤ a → a < base + 4096 * pages → a % 4096 + n ≤ 4096 → b < a + n → b < base + 4096 * pages

@@ -1,7 +1,6 @@
 -- No other segment with a segment's index is attached, if no piece names one.
-use Rattle.shm_attach.proofs.Names.{◌≡◌, ◌≢◌, ℕ, ◌%◌, List, [], ◌∷◌, refl, sym, ap, ◌∙◌, arith, ne_eqb, All, All-head, All-tail, pieces_of, attach_count, some_if, sum_by-cons}
+use Rattle.shm_attach.proofs.Names.{◌≡◌, ◌≢◌, ℕ, ◌%◌, List, [], ◌∷◌, refl, sym, ap, ◌∙◌, arith, ne_eqb, All, All-head, All-tail, pieces_of, attach_count, some_if, sum_by-cons, IsOnlyAt}
 use Rattle.shm_base.specs.State as flat
-use Rattle.shm_attach.specs.Spaces.{IsOnlyAt}
 use Rattle.shm_attach.proofs.Processes.{one_more}
 
 module _ (P : flat.Piece → Type 0) (seg : ℕ) (one : (p : flat.Piece) → P p → p.seg % 32768 ≡ seg % 32768 → p.seg ≡ seg) where

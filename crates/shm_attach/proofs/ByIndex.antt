@@ -1,7 +1,5 @@
 -- The keys of tables by segment index, through the changes of their list.
-use Rattle.shm_attach.proofs.Names.{◌≡◌, ◌≢◌, ℕ, zero, suc, ◌%◌, ◌<◌, ◌≤◌, if◌then◌else◌, nat_eq, List, [], ◌∷◌, length, Option, Some, None, inl, inr, cases_eq, cases_lt, refl, sym, ap, ◌∙◌, arith, set, eq-eqb, ne_eqb, none-some, true≢false}
-use Rattle.std.specs.Prelude.{IsSome}
-use Rattle.std.proofs.lemmas.List.{get_or-set_same, get_or-set_other}
+use Rattle.shm_attach.proofs.Names.{◌≡◌, ◌≢◌, ℕ, zero, suc, ◌%◌, ◌<◌, ◌≤◌, if◌then◌else◌, nat_eq, List, [], ◌∷◌, length, Option, Some, None, inl, inr, cases_eq, cases_lt, refl, sym, ap, ◌∙◌, arith, set, eq-eqb, ne_eqb, none-some, true≢false, IsSome, get_or-set_same, get_or-set_other}
 use Rattle.shm_attach.specs.Keys.{AreInPlace, IsAt, entry_at, key_at, key_for}
 use Rattle.shm_attach.specs.declared.keys.Keyed.{Keyed}
 

@@ -1,12 +1,9 @@
 -- The process that a pid names, and changes of its pieces as the flat machine sees them.
-use Rattle.shm_attach.proofs.Names.{is_live, true, keys_of, ◌≡◌, ◌≢◌, ◌⊎◌, inl, inr, ℕ, zero, suc, ◌+◌, ◌<◌, ◌≤◌, false, nat_eq, ◌==◌, if◌then◌else◌, List, [], ◌∷◌, length, get_or, Option, Some, None, slice_get, refl, ap, sym, ◌∙◌, arith, eq-eqb, ne_eqb, length-set, common_steps, position, position_or_len, cases_eq, cases_lt, lt-ltb, eqb-true, eqb-false, length-map, set-set, get_or-map, position-Some, fails_before_first, none-some, slice_get-get_or, slice_get_within, get_or_from_slice_get, gets, Cred, caller_by, caller_from, is_unborn, unborn_from, with_pieces, with_end, bare_all, Ended, life_view, runner_view, runners_view, with_own, with_pieces_at, with_life_at, pieces_at, life_at, caller_seen, IsCaller, FlatCaller, Life, Live, Runner}
+use Rattle.shm_attach.proofs.Names.{is_live, true, keys_of, ◌≡◌, ◌≢◌, ◌⊎◌, inl, inr, ℕ, zero, suc, ◌+◌, ◌<◌, ◌≤◌, false, nat_eq, ◌==◌, if◌then◌else◌, List, [], ◌∷◌, length, get_or, Option, Some, None, slice_get, refl, ap, sym, ◌∙◌, arith, eq-eqb, ne_eqb, length-set, common_steps, position, position_or_len, cases_eq, cases_lt, lt-ltb, eqb-true, eqb-false, length-map, set-set, get_or-map, position-Some, fails_before_first, none-some, slice_get_within, get_or_from_slice_get, gets, Cred, caller_by, caller_from, is_unborn, unborn_from, with_pieces, with_end, bare_all, Ended, life_view, runner_view, runners_view, with_own, with_pieces_at, with_life_at, pieces_at, life_at, caller_seen, IsCaller, FlatCaller, Life, Live, Runner, slice_set, Caller, Unborn, IsDistinct}
 use Rattle.shm_base.specs.State as flat
-use Rattle.shm_attach.specs.declared.process.Caller.{Caller}
-use Rattle.shm_attach.specs.declared.process.Life.TheVariants.{Unborn}
-use Rattle.shm_attach.proofs.Keeping.{life_at-get_or, with_pieces_at-same}
+use Rattle.shm_attach.proofs.Keeping.{with_pieces_at-same}
 pub use Rattle.shm_attach.proofs.Processes.{first_runner}
 use Rattle.std.proofs.lemmas.Map.Keys.{apart_from_distinct}
-use Rattle.std.specs.List.{IsDistinct}
 
 -- the value beyond the end of a list of entries
 abbrev pub nobody : ℕ × Runner
@@ -18,13 +15,13 @@ abbrev pub first : {X : Type 0} → (ℕ → flat.Runner → Option X) → ℕ �
 first f n pid [] = None
 first f n pid (r ∷ rs) = if r.pid == pid then f n r else first f (n + 1) pid rs
 
-abbrev as_caller : ℕ → ℕ → flat.Runner → Option FlatCaller
+abbrev pub as_caller : ℕ → ℕ → flat.Runner → Option FlatCaller
 as_caller pid i r = caller_by i pid r.pieces r.life
 
 abbrev as_child : ℕ → flat.Runner → Option ℕ
 as_child i r = if is_unborn r.life then Some i else None
 
-caller_from-first : (n pid : ℕ) (rs : List flat.Runner) → caller_from n pid rs ≡ first (as_caller pid) n pid rs
+pub caller_from-first : (n pid : ℕ) (rs : List flat.Runner) → caller_from n pid rs ≡ first (as_caller pid) n pid rs
 caller_from-first n pid [] = refl
 caller_from-first n pid (r ∷ rs) = ap (λ o. if r.pid == pid then caller_by n pid r.pieces r.life else o) (caller_from-first (n + 1) pid rs)
 
@@ -45,25 +42,36 @@ pub first-none : {X : Type 0} (f : ℕ → flat.Runner → Option X) (n pid : �
 first-none f n pid [] others = refl
 first-none f n pid (e ∷ es) others = rw (ne_eqb e.0 pid (others 0 (omega arith))) (first-none f (n + 1) pid es (λ k l. others (suc k) (omega arith)))
 
--- that process, and the fact about it
-record IsFirstOf {X : Type 0} (f : ℕ → flat.Runner → Option X) (n pid : ℕ) (rs : List flat.Runner) (x : X) : Type 0 where
-  place : ℕ
-  within : place < length rs
-  named : (get_or rs place first_runner).pid ≡ pid
-  said : f (n + place) (get_or rs place first_runner) ≡ Some x
+-- that process, and the fact about it. Another with its pid at its place is the first then
+pub record IsFirstOf {X : Type 0} (f : ℕ → flat.Runner → Option X) (n pid : ℕ) (rs : List flat.Runner) (x : X) : Type 0 where
+  pub place : ℕ
+  pub runner : flat.Runner
+  pub there : slice_get rs place ≡ Some runner
+  pub named : runner.pid ≡ pid
+  pub said : f (n + place) runner ≡ Some x
+  pub set : (new : flat.Runner) → new.pid ≡ pid → first f n pid (slice_set rs place new) ≡ f (n + place) new
 
-first-there : {X : Type 0} (f : ℕ → flat.Runner → Option X) (n pid : ℕ) (rs : List flat.Runner) (x : X) → first f n pid rs ≡ Some x → IsFirstOf f n pid rs x
+pub first-there : {X : Type 0} (f : ℕ → flat.Runner → Option X) (n pid : ℕ) (rs : List flat.Runner) (x : X) → first f n pid rs ≡ Some x → IsFirstOf f n pid rs x
 first-there f n pid [] x found = absurd (none-some x found)
 first-there f n pid (r ∷ rs) x found =
     elim (cases_eq r.pid pid) [
       | inl same ↦
           let here : n + 0 ≡ n = omega arith in
-          record { place = 0; within = omega arith; named = same; said = rw here (rw (eq-eqb r.pid pid same) at found) }
+          record { place = 0; runner = r; there = refl; named = same; said = rw here (rw (eq-eqb r.pid pid same) at found); set = λ new own. rw (eq-eqb new.pid pid own, here) refl }
       | inr other ↦
           let t = first-there f (n + 1) pid rs x (rw (ne_eqb r.pid pid other) at found) in
           let next : n + suc t.place ≡ (n + 1) + t.place = omega arith in
-          record { place = suc t.place; within = omega (arith, t.within); named = t.named; said = rw next t.said }
+          record { place = suc t.place; runner = t.runner; there = t.there; named = t.named; said = rw next t.said; set = λ new own. rw (ne_eqb r.pid pid other, next) (t.set new own) }
     ]
+
+-- no other process of its pid is found where one with another pid changes
+pub first-apart : {X : Type 0} (f : ℕ → flat.Runner → Option X) (n pid i : ℕ) (rs : List flat.Runner) (old new : flat.Runner) → slice_get rs i ≡ Some old → old.pid ≢ pid → new.pid ≢ pid
+    → first f n pid (slice_set rs i new) ≡ first f n pid rs
+first-apart f n pid i [] old new there a b = refl
+first-apart f n pid zero (r ∷ rs) old new there a b =
+    let same : r ≡ old = cc there in
+    rw (ne_eqb new.pid pid b, ne_eqb r.pid pid (λ e. a (ap (λ (y : flat.Runner). y.pid) (sym same) ∙ e))) refl
+first-apart f n pid (suc i) (r ∷ rs) old new there a b = ap (λ o. if r.pid == pid then f n r else o) (first-apart f (n + 1) pid i rs old new there a b)
 
 -- THE INDEX THAT A LOOKUP GIVES
 
@@ -141,23 +149,48 @@ unborn_from-absent pid es none = unborn_from-first 0 pid (runners_view es) ∙ f
 
 -- WHAT A CALLER IS
 
-record IsLive (i pid : ℕ) (ps : List flat.Piece) (l : flat.Life) (k : FlatCaller) : Type 0 where
+record IsLive (i own : ℕ) (ps : List flat.Piece) (l : flat.Life) (k : FlatCaller) : Type 0 where
   at : i ≡ k.index
+  pid : k.pid ≡ own
   life : l ≡ flat.Live k.cred
   pieces : ps ≡ k.pieces
 
 live_is : (i pid : ℕ) (ps : List flat.Piece) (l : flat.Life) (k : FlatCaller) → caller_by i pid ps l ≡ Some k → IsLive i pid ps l k
-live_is i pid ps l k said = record { at = grind arith; life = grind arith; pieces = grind arith }
+live_is i pid ps l k said = record { at = grind arith; pid = grind arith; life = grind arith; pieces = grind arith }
+
+-- a caller is a live process, and has its pieces
+pub record CallerAt (pid : ℕ) (rs : List flat.Runner) (k : FlatCaller) : Type 0 where
+  pub own : k.pid ≡ pid
+  pub there : slice_get rs k.index ≡ Some (record { pid = pid; life = flat.Live k.cred; pieces = k.pieces })
+
+found_at : (pid : ℕ) (rs : List flat.Runner) (k : FlatCaller) → caller_from 0 pid rs ≡ Some k → IsFirstOf (as_caller pid) 0 pid rs k
+found_at pid rs k is = first-there (as_caller pid) 0 pid rs k (sym (caller_from-first 0 pid rs) ∙ is)
+
+pub caller-at : (pid : ℕ) (rs : List flat.Runner) (k : FlatCaller) → caller_from 0 pid rs ≡ Some k → CallerAt pid rs k
+caller-at pid rs k is =
+    let t = found_at pid rs k is in
+    let l = live_is (0 + t.place) pid t.runner.pieces t.runner.life k t.said in
+    let at : t.place ≡ k.index = omega (arith, l.at) in
+    let same : t.runner ≡ record { pid = pid; life = flat.Live k.cred; pieces = k.pieces } = grind (arith, t.named, l.life, l.pieces) in
+    record { own = l.pid; there = rw at at (t.there ∙ ap (λ r. Some r) same) }
+
+-- with other credentials or pieces it is the same caller
+pub caller-set : (pid : ℕ) (rs : List flat.Runner) (k : FlatCaller) (cred : Cred) (ps : List flat.Piece) → caller_from 0 pid rs ≡ Some k
+    → caller_from 0 pid (slice_set rs k.index (record { pid = k.pid; life = flat.Live cred; pieces = ps })) ≡ Some (record { index = k.index; pid = k.pid; cred = cred; pieces = ps })
+caller-set pid rs k cred ps is =
+    let t = found_at pid rs k is in
+    let l = live_is (0 + t.place) pid t.runner.pieces t.runner.life k t.said in
+    let at : t.place ≡ k.index = omega (arith, l.at) in
+    let new : flat.Runner = record { pid = k.pid; life = flat.Live cred; pieces = ps } in
+    caller_from-first 0 pid (slice_set rs k.index new)
+    ∙ ap (λ i. first (as_caller pid) 0 pid (slice_set rs i new)) (sym at)
+    ∙ t.set new l.pid
+    ∙ ap (λ i. as_caller pid i new) l.at
+    ∙ ap (λ own. Some (record { index = k.index; pid = own; cred = cred; pieces = ps })) (sym l.pid)
 
 -- the process of a caller
 pub caller_there : (c : Caller) (rs : List flat.Runner) → IsCaller c rs → slice_get rs c.index ≡ Some (record { pid = c.pid; life = flat.Live c.cred; pieces = pieces_at rs c.index })
-caller_there c rs is =
-    let t = first-there (as_caller c.pid) 0 c.pid rs (caller_seen c rs) (sym (caller_from-first 0 c.pid rs) ∙ is) in
-    let r = get_or rs t.place first_runner in
-    let l = live_is (0 + t.place) c.pid r.pieces r.life (caller_seen c rs) t.said in
-    let own : r ≡ record { pid = c.pid; life = flat.Live c.cred; pieces = pieces_at rs c.index } =
-    grind arith in
-    grind (arith, common_steps, slice_get-get_or)
+caller_there c rs is = (caller-at c.pid rs (caller_seen c rs) is).there
 
 -- its pieces are changed as the flat machine changes them
 pub with_pieces-at : (c : Caller) (rs : List flat.Runner) (f : List flat.Piece → List flat.Piece) → IsCaller c rs → with_pieces rs (caller_seen c rs) (f (pieces_at rs c.index)) ≡ with_pieces_at rs c.index f
@@ -223,6 +256,11 @@ pub record ChildAt (pid j : ℕ) (rs : List flat.Runner) : Type 0 where
 pub child_at : (pid j : ℕ) (rs : List flat.Runner) → unborn_from 0 pid rs ≡ Some j → ChildAt pid j rs
 child_at pid j rs found =
     let t = first-there as_child 0 pid rs j (sym (unborn_from-first 0 pid rs) ∙ found) in
-    let a = asleep_is (0 + t.place) j (get_or rs t.place first_runner).life t.said in
-    let life : life_at rs t.place ≡ flat.Unborn = life_at-get_or rs t.place ∙ a.life in
-    grind (arith, common_steps)
+    let a = asleep_is (0 + t.place) j t.runner.life t.said in
+    let at : t.place ≡ j = omega (arith, a.at) in
+    let there : slice_get rs j ≡ Some t.runner = rw at at t.there in
+    record {
+      within = slice_get_within rs j t.runner there;
+      named = ap (λ (r : flat.Runner). r.pid) (get_or_from_slice_get rs j t.runner first_runner there) ∙ t.named;
+      unborn = grind (arith, there, a.life);
+    }

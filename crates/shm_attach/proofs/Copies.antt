@@ -1,8 +1,5 @@
 -- A copy of the processes and of the tables.
-use Rattle.shm_attach.proofs.Names.{◌≡◌, ◌∙◌, ℕ, List, Option, Some, None, refl, ap, sym, get_or, runners_view, Slab, get, TableView, count_in, seg_in, counted, counted_under, key_of, stored_at, HasTable, OneTableEach, AllHaveTables, AreCountsExact, AreTablesSound, Tables, Runner}
-use Rattle.std.specs.Prelude.{slice_index_or}
-use Rattle.slab.specs.Slab.{IsSlotClone}
-use Rattle.shm_attach.specs.Tables.{AreSameTables}
+use Rattle.shm_attach.proofs.Names.{◌≡◌, ◌∙◌, ℕ, List, Option, Some, None, refl, ap, sym, get_or, runners_view, Slab, get, TableView, count_in, seg_in, counted, counted_under, key_of, stored_at, HasTable, OneTableEach, AllHaveTables, AreCountsExact, AreTablesSound, Tables, Runner, slice_index_or, IsSlotClone, AreSameTables}
 
 pub same_slot : (x y : Option TableView) → IsSlotClone (λ (t copy : TableView). copy ≡ t) x y → y ≡ x
 same_slot None y same = same

@@ -1,9 +1,8 @@
 -- The table of each piece, after a change of the pieces and of the tables.
-use Rattle.shm_attach.proofs.Names.{HaveRoom, most_at, values_of, gets, slice_get-map, ◌≡◌, ◌≢◌, inl, inr, ℕ, zero, suc, ◌+◌, ◌<◌, ◌≤◌, ◌==◌, ◌&&◌, Bool, true, false, nat_lt, List, [], ◌∷◌, length, filter, get_or, slice_get, Option, Some, None, refl, ap, sym, subst, ◌∙◌, arith, common_steps, All, cases_Bool, cases_eq, slice_get_cases, All-append, All-cons, All-head, All-tail, All-filter, length-map, set_value_at, Slab, get, pieces_of, bare, bare_all, stored_inserted, stored_parts, stored_cut, Tables, runner_view, runners_view, pieces_at, seg_in, size_in, frame_in, TrueSlot, counted, stored_in, stored_at, HasTable, AllHaveTables, AreCountsExact, Piece, Runner, TableView}
-use Rattle.std.specs.Prelude.{is_some}
+use Rattle.shm_attach.proofs.Names.{HaveRoom, most_at, values_of, gets, slice_get-map, ◌≡◌, ◌≢◌, inl, inr, ℕ, zero, suc, ◌+◌, ◌<◌, ◌≤◌, ◌==◌, ◌&&◌, Bool, true, false, nat_lt, List, [], ◌∷◌, length, filter, get_or, slice_get, Option, Some, None, refl, ap, sym, subst, ◌∙◌, arith, common_steps, All, cases_Bool, cases_eq, slice_get_cases, All-append, All-cons, All-head, All-tail, All-filter, length-map, set_value_at, Slab, get, pieces_of, bare, bare_all, stored_inserted, stored_parts, stored_cut, Tables, runner_view, runners_view, pieces_at, seg_in, size_in, frame_in, TrueSlot, counted, stored_in, stored_at, HasTable, AllHaveTables, AreCountsExact, Piece, Runner, TableView, is_some, bare-get_or}
 use Rattle.shm_base.specs.State as flat
 use Rattle.shm_attach.proofs.Processes.{entry_there, entries_set}
-use Rattle.shm_attach.proofs.Keeping.{own_counted, pieces_of-there, bare-get_or}
+use Rattle.shm_attach.proofs.Keeping.{own_counted, pieces_of-there}
 
 -- THE PIECES OF A PROCESS, AS STORED
 

@@ -1,24 +1,12 @@
 -- Processes that join and leave keep the invariant.
-use Rattle.std.proofs.lemmas.List.Sums.{sum_by-swap_remove}
-use Rattle.std.proofs.Common.{◌⊎◌, inl, inr, position}
-use Rattle.std.specs.Prelude.{swap_remove, IfSome, slice_set, min, nat_le, Ok}
-use Rattle.std.proofs.lemmas.List.{take-map, get_or-set_other}
-use Rattle.std.proofs.lemmas.Grind.{get_or-set_at}
-use Rattle.std.proofs.lemmas.Option.{slice_get_past}
-use Rattle.shm_attach.specs.Views.{most_in}
-use Rattle.shm_base.specs.Callers.{with_cred}
-use Rattle.shm_base.specs.Guest.{Standing, standing, standing_from, joins}
 use Rattle.shm_base.specs.Bounds.{within}
-use Rattle.shm_attach.proofs.Names.{true, false, none-some, eq-eqb, ne_eqb, ◌≢◌, option_map, sum_by-set, Life, Live, Cred, Process, runner_at_start, with_life_at, caller_seen, IsCaller, All-nil, Piece, cases_Bool, sum_by-cons, get_or_from_slice_get, keys_of, ◌≡◌, ℕ, zero, suc, ◌+◌, ◌-◌, ◌<◌, ◌≤◌, nat_eq, ◌==◌, if◌then◌else◌, List, [], ◌∷◌, ◌++◌, length, get_or, set, take, Option, Some, None, slice_get, refl, ap, sym, ◌∙◌, subst, arith, common_steps, cases_eq, cases_lt, length-map, slice_get-map, length-take, length-set, get_or-map, get_or-take, map-set, slice_get-get_or, slice_get_within, sum_by-append, All, insert_entry, attach_count, pieces_of, bare_all, runner_view, runners_view, life_view, pieces_at, life_at, stored_in, HasTable, HaveRoom, AreTablesSound, no_reservations, is_live, Tables, Runner}
+use Rattle.shm_attach.proofs.Names.{true, false, none-some, eq-eqb, ne_eqb, ◌≢◌, option_map, sum_by-set, Life, Live, Cred, Process, runner_at_start, with_life_at, caller_seen, IsCaller, All-nil, Piece, cases_Bool, sum_by-cons, get_or_from_slice_get, keys_of, ◌≡◌, ℕ, zero, suc, ◌+◌, ◌-◌, ◌<◌, ◌≤◌, nat_eq, ◌==◌, if◌then◌else◌, List, [], ◌∷◌, ◌++◌, length, get_or, set, take, Option, Some, None, slice_get, refl, ap, sym, ◌∙◌, subst, arith, common_steps, cases_eq, cases_lt, length-map, slice_get-map, length-take, length-set, get_or-map, get_or-take, map-set, slice_get-get_or, slice_get_within, sum_by-append, All, insert_entry, attach_count, pieces_of, bare_all, runner_view, runners_view, life_view, pieces_at, life_at, stored_in, HasTable, HaveRoom, AreTablesSound, no_reservations, is_live, Tables, Runner, sum_by-swap_remove, swap_remove, IfSome, slice_set, min, nat_le, Ok, take-map, get_or-set_other, get_or-set_at, slice_get_past, most_in, with_cred, Standing, standing, standing_from, joins, LAST_PID, MOST_PROCESSES, life_at_start, Caller, ◌⊎◌, inl, inr, position}
 use Rattle.shm_base.specs.State as flat
-use Rattle.shm_base.specs.declared.bounds.TheConstants.{LAST_PID, MOST_PROCESSES}
-use Rattle.shm_attach.proofs.Callers.{first, first-position, first-none, no_place, nobody, caller_there}
+use Rattle.shm_attach.proofs.Callers.{first, first-there, first-position, first-none, no_place, nobody, caller_there}
 use Rattle.shm_attach.proofs.HavingTables.{pieces_at-bare, pieces_at-entry}
 use Rattle.shm_attach.proofs.Keeping.{with_life_at-within}
 use Rattle.shm_attach.proofs.Starts.{view-insert_entry}
 use Rattle.shm_attach.proofs.Processes.{first_runner}
-use Rattle.shm_base.specs.State.{life_at_start}
-use Rattle.shm_attach.specs.declared.process.Caller.{Caller}
 
 -- THE PROCESS WITH A PID
 
@@ -30,50 +18,46 @@ standing-first n pid [] = refl
 standing-first n pid (r ∷ rs) = ap (λ o. if r.pid == pid then as_standing n r else o) (standing-first (n + 1) pid rs)
 
 -- its position
-pub record IsThere (n pid : ℕ) (rs : List flat.Runner) (x : Standing) : Type 0 where
-  pub place : ℕ
-  pub at : x.index ≡ n + place
-  pub there : slice_get rs place ≡ Some x.runner
+pub record IsThere (pid : ℕ) (rs : List flat.Runner) (x : Standing) : Type 0 where
+  pub there : slice_get rs x.index ≡ Some x.runner
   pub named : x.runner.pid ≡ pid
 
-there-from : (n pid : ℕ) (rs : List flat.Runner) (x : Standing) → standing_from n pid rs ≡ Some x → IsThere n pid rs x
-there-from n pid [] x found = absurd (none-some x found)
-there-from n pid (r ∷ rs) x found =
-    elim (cases_eq r.pid pid) [
-      | inl same ↦
-          let is : record { index = n; runner = r } ≡ x = cc (rw (eq-eqb r.pid pid same) at found) in
-          record { place = 0; at = ap (λ (s : Standing). s.index) (sym is) ∙ omega arith; there = ap (λ (s : Standing). Some s.runner) is; named = ap (λ (s : Standing). s.runner.pid) (sym is) ∙ same }
-      | inr other ↦
-          let t = there-from (n + 1) pid rs x (rw (ne_eqb r.pid pid other) at found) in
-          record { place = suc t.place; at = omega (arith, t.at); there = t.there; named = t.named }
-    ]
+pub there-found : (pid : ℕ) (rs : List flat.Runner) (x : Standing) → standing pid rs ≡ Some x → IsThere pid rs x
+there-found pid rs x found =
+    let t = first-there as_standing 0 pid rs x (sym (standing-first 0 pid rs) ∙ found) in
+    let is : record { index = 0 + t.place; runner = t.runner } ≡ x = cc t.said in
+    let at : 0 + t.place ≡ t.place = omega arith in
+    record { there = ap (slice_get rs) (sym (ap (λ (s : Standing). s.index) is) ∙ at) ∙ t.there ∙ ap (λ (s : Standing). Some s.runner) is; named = ap (λ (s : Standing). s.runner.pid) (sym is) ∙ t.named }
 
 pub standing-there : (pid : ℕ) (rs : List flat.Runner) (x : Standing) → standing pid rs ≡ Some x → slice_get rs x.index ≡ Some x.runner
-standing-there pid rs x found = let t = there-from 0 pid rs x found in let here : t.place ≡ x.index = omega (arith, t.at) in rw here at t.there
+standing-there pid rs x found = (there-found pid rs x found).there
 
 pub standing-position : (pid i : ℕ) (es : List (ℕ × Runner)) (e : ℕ × Runner) → position (nat_eq pid) (keys_of es) ≡ Some i → slice_get es i ≡ Some e
     → standing pid (runners_view es) ≡ Some (record { index = i; runner = record { pid = pid; life = life_view e.1.life; pieces = pieces_at (runners_view es) i } })
 standing-position pid i es e found at =
     let is : standing pid (runners_view es) ≡ Some (record { index = i; runner = runner_view e }) =
     standing-first 0 pid (runners_view es) ∙ first-position as_standing pid i es e found at in
-    let named : e.0 ≡ pid = (there-from 0 pid (runners_view es) (record { index = i; runner = runner_view e }) is).named in
+    let named : e.0 ≡ pid = (there-found pid (runners_view es) (record { index = i; runner = runner_view e }) is).named in
     rw (pieces_at-entry es i e at, ← named) (rw (← named) at is)
 
 pub standing-absent : (pid : ℕ) (es : List (ℕ × Runner)) → None ≡ position (nat_eq pid) (keys_of es) → standing pid (runners_view es) ≡ None
 standing-absent pid es none = standing-first 0 pid (runners_view es) ∙ first-none as_standing 0 pid es (no_place pid es none)
 
-absent-from : (n pid : ℕ) (es : List (ℕ × Runner)) → standing_from n pid (runners_view es) ≡ None → (j : ℕ) → j < length es → (get_or es j nobody).0 ≢ pid
-absent-from n pid [] none j l = absurd (omega arith)
-absent-from n pid (e ∷ es) none zero l = λ same. none-some _ (sym (rw (eq-eqb e.0 pid same) at none))
-absent-from n pid (e ∷ es) none (suc j) l = λ same.
-    elim (cases_eq e.0 pid) [
-      | inl own ↦ none-some _ (sym (rw (eq-eqb e.0 pid own) at none))
-      | inr other ↦ absent-from (n + 1) pid es (rw (ne_eqb e.0 pid other) at none) j (omega arith) same
-    ]
+-- no process has it
+pub absent-from : (n pid : ℕ) (rs : List flat.Runner) → standing_from n pid rs ≡ None → (k : ℕ) (d : flat.Runner) → k < length rs → (get_or rs k d).pid ≢ pid
+absent-from n pid [] none k d l = absurd (omega arith)
+absent-from n pid (r ∷ rs) none zero d l = λ same. none-some _ (sym (rw (eq-eqb r.pid pid same) at none))
+absent-from n pid (r ∷ rs) none (suc k) d l = elim (cases_eq r.pid pid) [
+  | inl own ↦ absurd (none-some _ (sym (rw (eq-eqb r.pid pid own) at none)))
+  | inr other ↦ absent-from (n + 1) pid rs (rw (ne_eqb r.pid pid other) at none) k d (omega arith)
+]
 
 -- a new process is shown after the others
 pub shown-behind : (pid : ℕ) (es : List (ℕ × Runner)) (r : Runner) → standing pid (runners_view es) ≡ None → runners_view (insert_entry nat_eq es pid r) ≡ runners_view es ++ runner_view (pid, r) ∷ []
-shown-behind pid es r none = view-insert_entry es pid r (absent-from 0 pid es none)
+shown-behind pid es r none =
+    view-insert_entry es pid r
+    (λ j l same.
+    absent-from 0 pid (runners_view es) none j first_runner (omega (arith, l, length-map es runner_view)) (ap (λ (x : flat.Runner). x.pid) (get_or-map runner_view es j nobody first_runner l) ∙ same))
 
 pub joins-behind : (most : ℕ) (p : Process) (rs : List flat.Runner) → 1 ≤ p.pid → p.pid ≤ LAST_PID → standing p.pid rs ≡ None → length rs < most
     → joins most p rs ≡ Ok (rs ++ runner_at_start p ∷ [])

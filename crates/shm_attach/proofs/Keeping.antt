@@ -1,5 +1,5 @@
 -- The counts stay exact, and no process gets too many pieces.
-use Rattle.shm_attach.proofs.Names.{is_live, ◌≡◌, ◌≢◌, ℕ, zero, suc, ◌+◌, ◌*◌, ◌<◌, ◌≤◌, false, ◌==◌, List, [], ◌∷◌, ◌++◌, length, get_or, set, take, refl, ap, sym, ◌∙◌, arith, length-take, common_steps, cases_eq, slice_get-get_or, gets, set-set, get_or-map, set-get_or, sum_by-cons, sum_by-set, count_by-le-length, end_of, lowest_address, end_address, without_named, inserted, occupied, cut, parts, part_below, part_above, pieces_of, attach_count, bare, bare_all, IsFit, Arranged, lower, Tables, counted, with_own, with_pieces_at, with_other_life, with_life_at, pieces_at, life_at, AreCountsExact, IsPlaceFor, Stored, MOST_PIECES, most_of_segment}
+use Rattle.shm_attach.proofs.Names.{is_live, ◌≡◌, ◌≢◌, ℕ, zero, suc, ◌+◌, ◌*◌, ◌<◌, ◌≤◌, false, ◌==◌, List, [], ◌∷◌, ◌++◌, length, get_or, set, take, refl, ap, sym, ◌∙◌, arith, length-take, common_steps, cases_eq, slice_get-get_or, gets, set-set, set-get_or, sum_by-cons, sum_by-set, count_by-le-length, end_of, lowest_address, end_address, without_named, inserted, occupied, cut, parts, part_below, part_above, pieces_of, attach_count, IsFit, Arranged, Tables, counted, with_own, with_pieces_at, with_other_life, with_life_at, pieces_at, life_at, AreCountsExact, IsPlaceFor, MOST_PIECES, most_of_segment, is_named, all_above, all_kind, not, some_by}
 use Rattle.shm_base.specs.State.{Piece, Life, Runner}
 use Rattle.shm_attach.proofs.Processes.{first_runner, attach_count-changed, one_more}
 
@@ -121,8 +121,7 @@ cut-all low [] le ar = refl
 cut-all low (p ∷ ps) le ar = grind (arith, common_steps, cut-all (end_of p) ps)
 
 pub arranged-without : (addr seg low : ℕ) (ps : List Piece) → Arranged low ps → Arranged low (without_named addr seg ps)
-arranged-without addr seg low [] ar = ar
-arranged-without addr seg low (p ∷ ps) ar = grind (arith, common_steps, lower, arranged-without addr seg (end_of p) ps ar.1.1)
+arranged-without addr seg low ps ar = some_by IsFit (λ (p : Piece). not (is_named addr seg p)) low ps ar
 
 -- A COPY OF PIECES
 
@@ -131,23 +130,13 @@ pieces_of-there k [] d l = absurd (omega arith)
 pieces_of-there zero (p ∷ ps) d l = let own = one_more p.seg p ps in grind (arith, common_steps)
 pieces_of-there (suc k) (p ∷ ps) d l = grind (arith, common_steps, one_more, pieces_of-there k ps d)
 
-pub bare-get_or : (ps : List Stored) (k : ℕ) (d : Stored) (e : Piece) → k < length ps → bare (get_or ps k d) ≡ get_or (bare_all ps) k e
-bare-get_or ps k d e l = grind (arith, common_steps, get_or-map)
-
 -- the same pieces replace those that are there
 pub with_pieces_at-same : (rs : List Runner) (i : ℕ) (f : List Piece → List Piece) → i < length rs → f (pieces_at rs i) ≡ pieces_at rs i → rs ≡ with_pieces_at rs i f
 with_pieces_at-same rs i f lt same = let there = slice_get-get_or rs i first_runner lt in grind (arith, common_steps, gets, set-get_or)
 
 -- the next of some pieces in order is above those before it
 base_behind : (low k : ℕ) (ps : List Piece) (d : Piece) → Arranged low ps → k < length ps → low ≤ (get_or ps k d).base
-base_behind low k [] d ar lt = absurd (omega arith)
-base_behind low zero (p ∷ ps) d ar lt = ar.0
-base_behind low (suc k) (p ∷ ps) d ar lt = let rest = base_behind (end_of p) k ps d ar.1.1 (omega arith) in omega (arith, ar.0, rest)
-
-pub fit_next : (low k : ℕ) (ps : List Piece) (d : Piece) → Arranged low ps → k < length ps → IsFit (get_or ps k d)
-fit_next low k [] d ar lt = absurd (omega arith)
-fit_next low zero (p ∷ ps) d ar lt = ar.1.0
-fit_next low (suc k) (p ∷ ps) d ar lt = fit_next (end_of p) k ps d ar.1.1 (omega arith)
+base_behind low k ps d ar lt = all_above IsFit low ps ar k d lt
 
 free_next : (low k to : ℕ) (ps : List Piece) (d : Piece) → Arranged low ps → k < length ps → occupied (take k ps) (get_or ps k d).base to ≡ false
 free_next low k to [] d ar lt = absurd (omega arith)
@@ -164,6 +153,6 @@ place_next k ps d ar few lt =
     record {
       room = omega (arith, length-take k ps, lt, few);
       low = base_behind lowest_address k ps d ar lt;
-      fit = fit_next lowest_address k ps d ar lt;
+      fit = all_kind IsFit lowest_address ps ar k d lt;
       free = free_next lowest_address k (end_of (get_or ps k d)) ps d ar lt;
     }

@@ -12,7 +12,8 @@ pub mod Translations
 pub mod Starts
 pub mod FlatSteps
 pub mod Joining
-pub mod Renewed
+pub mod Turned
+pub mod Protected
 pub mod Growing
 pub mod Protecting
 pub mod Copies

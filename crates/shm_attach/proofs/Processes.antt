@@ -1,7 +1,5 @@
 -- One process's pieces change, and the counts change with them.
-use Rattle.shm_attach.proofs.Names.{map-set, slice_get-map, set, slice_get_cases, ◌≡◌, ℕ, zero, suc, ◌+◌, ◌-◌, ◌<◌, ◌≤◌, Bool, true, ◌==◌, List, [], ◌∷◌, length, map, get_or, Some, slice_get, filter, refl, ap, arith, ◌++◌, cond, drop, drop-cons, add-one, common_steps, filter_passes, sum_by-cons, sum_by-set, sum_by-append, length-filter, count_by-le-length, slice_get-get_or, set_value_at, values_of, pieces_of, meets, parts, cut, cut_segments, inserted, without_named, attach_count, bare, bare_all, met, with_pieces_at, with_life_at, some_if, life_view, runners_view, pieces_at, Stored, Runner, Life}
-use Rattle.std.proofs.Common.{inl, inr}
-use Rattle.std.proofs.lemmas.Bool.{cases_Bool}
+use Rattle.shm_attach.proofs.Names.{map-set, slice_get-map, set, slice_get_cases, ◌≡◌, ℕ, zero, suc, ◌+◌, ◌-◌, ◌<◌, ◌≤◌, Bool, true, ◌==◌, List, [], ◌∷◌, length, map, get_or, Some, slice_get, filter, refl, ap, arith, ◌++◌, cond, drop, drop-cons, add-one, common_steps, filter_passes, sum_by-cons, sum_by-set, sum_by-append, length-filter, count_by-le-length, slice_get-get_or, set_value_at, values_of, pieces_of, meets, parts, cut, cut_segments, inserted, without_named, attach_count, bare, bare_all, met, with_pieces_at, with_life_at, some_if, life_view, runners_view, pieces_at, Stored, Runner, Life, inl, inr, cases_Bool}
 use Rattle.shm_base.specs.State as flat
 
 -- the value beyond the end of a list of processes

@@ -1,11 +1,8 @@
 -- A part of an attach gets another protection: where it begins and ends, and why it may be placed there.
-use Rattle.shm_attach.proofs.Names.{most_at, ◌≡◌, ◌≢◌, ◌==◌, ◌^◌, eq-eqb, ne_eqb, nat_le, ℕ, ◌+◌, ◌-◌, ◌*◌, ◌/◌, ◌%◌, ◌<◌, ◌≤◌, zero, suc, Bool, true, false, not, ◌&&◌, nat_lt, lt-ltb, le-ltb, lt-leb, le-leb, List, [], ◌∷◌, length, Option, Some, None, cases_Bool, inl, inr, refl, ap, ◌∙◌, arith, common_steps, none-some, All, All-nil, All-cons, All-head, All-tail, length-map, get, is_live, end_of, covering, cut, inserted, lowest_address, end_address, bare, bare_all, IsFit, Arranged, Tables, runner_view, runners_view, with_pieces_at, pieces_at, life_at, size_in, HasTable, OneTableEach, AreTablesSound, no_reservations, Piece, Runner, MOST_PIECES, MOST_SHMALL}
+use Rattle.shm_attach.proofs.Names.{most_at, ◌≡◌, ◌≢◌, ◌==◌, ◌^◌, eq-eqb, ne_eqb, nat_le, ℕ, ◌+◌, ◌-◌, ◌*◌, ◌/◌, ◌%◌, ◌<◌, ◌≤◌, zero, suc, Bool, true, false, not, ◌&&◌, nat_lt, lt-ltb, le-ltb, lt-leb, le-leb, List, [], ◌∷◌, length, Some, cases_Bool, inl, inr, refl, ap, ◌∙◌, arith, common_steps, All, All-nil, All-cons, All-head, All-tail, length-map, get, is_live, end_of, covering, cut, inserted, lowest_address, bare, bare_all, IsFit, Arranged, Tables, runner_view, runners_view, with_pieces_at, pieces_at, life_at, size_in, HasTable, OneTableEach, AreTablesSound, no_reservations, Piece, Runner, MOST_PIECES, MOST_SHMALL, pages_of, has_protection, low_end, high_end, part_between, turned, Protected, stopped, ended, with_split, protects_piece, protects_from, protects_pieces, rounded, Enomem, IsStretch, CanReplace, AreNow, noted, split_in, All-weaker, all_kind, whole_fit}
 use Rattle.shm_base.specs.State as flat
-use Rattle.shm_base.specs.State.{pages_of}
-use Rattle.shm_base.specs.Mapping.{has_protection, low_end, high_end, part_between, turned, Protected, stopped, ended, with_split, protects_piece, protects_from, protects_pieces, rounded}
-use Rattle.shm_base.specs.declared.errno.Errno.TheVariants.{Enomem}
-use Rattle.shm_attach.specs.Mapping.{IsStretch, CanReplace, AreNow, noted, split_in}
-use Rattle.shm_attach.proofs.Accesses.{covering-passes}
+use Rattle.shm_attach.proofs.Processes.{length-inserted}
+use Rattle.shm_attach.proofs.Turned.{kept-many, AreSized, IsHigh, IsLow, high_is, laid-aligned, low_is, turned-cut}
 use Rattle.shm_attach.proofs.Keeping.{life_at-changed, pieces_at-changed, with_pieces_at-same, with_pieces_at-twice}
 
 -- THE PIECES THAT A PROCESS HAS NOW
@@ -27,69 +24,7 @@ pub pieces-now : (es fs : List (ℕ × Runner)) (t u : Tables) (i : ℕ) (ps : L
 pieces-now es fs t u i ps lt now =
     ap (λ rs. pieces_at rs i) now.runners ∙ pieces_at-changed (runners_view es) i (λ (_ : List flat.Piece). ps) (omega (arith, lt, length-map es runner_view))
 
--- THE PIECE OF AN ADDRESS
-
-record IsThere (low a : ℕ) (p : flat.Piece) : Type 0 where
-  lowest : low ≤ p.base
-  fit : IsFit p
-  from : p.base ≤ a
-  to : a < end_of p
-
-covering_there : (a low : ℕ) (ps : List flat.Piece) (p : flat.Piece) → Arranged low ps → covering a ps ≡ Some p → IsThere low a p
-covering_there a low [] p ar found = absurd (none-some p found)
-covering_there a low (q ∷ ps) p ar found = grind (arith, common_steps, covering_there a (end_of q) ps p ar.1.1)
-
-pub covering_above : (a : ℕ) (ps : List flat.Piece) (p : flat.Piece) → Arranged lowest_address ps → covering a ps ≡ Some p → lowest_address ≤ p.base
-covering_above a ps p ar found = (covering_there a lowest_address ps p ar found).lowest
-
 -- WHERE A PART BEGINS AND ENDS
-
-pub record IsLow (p : flat.Piece) (at low : ℕ) : Type 0 where
-  pub page : low % 4096 ≡ 0
-  pub lowest : lowest_address ≤ low
-  pub under : low ≤ at
-  pub begins : p.base ≤ 4096 * p.first_page + low
-
-pub low_is : (w : Bool) (at to : ℕ) (p : flat.Piece) (ps : List flat.Piece) → Arranged lowest_address ps → covering at ps ≡ Some p → at % 4096 ≡ 0 → IsLow p at (low_end w at to p ps)
-low_is w at to p ps ar found page = by (covering (at - 1) ps) refl
-  where
-    by : (o : Option flat.Piece) → covering (at - 1) ps ≡ o → IsLow p at (low_end w at to p ps)
-    by None is = let here = covering_there at lowest_address ps p ar found in grind (arith, common_steps)
-    by (Some q) is =
-        let here = covering_there at lowest_address ps p ar found in
-        let below = covering_there (at - 1) lowest_address ps q ar is in
-        grind (arith, common_steps)
-
--- a segment's table has this many pages
-pub record IsHigh (p : flat.Piece) (size at high : ℕ) : Type 0 where
-  pub page : high % 4096 ≡ 0
-  pub over : at < high
-  pub within : high ≤ end_address
-  pub few : 4096 * p.first_page + high ≤ p.base + 4096 * MOST_SHMALL
-  pub ends : 4096 * p.first_page + high ≤ p.base + 4096 * size
-
--- each piece of the segment is within the table
-abbrev pub AreSized : ℕ → ℕ → List flat.Piece → Type 0
-AreSized seg size ps = All (λ (q : flat.Piece). q.seg ≡ seg → q.first_page + q.pages ≤ size) ps
-
-pub high_is : (w : Bool) (at to : ℕ) (p : flat.Piece) (ps : List flat.Piece) (size : ℕ) → Arranged lowest_address ps → covering at ps ≡ Some p → to % 4096 ≡ 0 → at < to
-    → AreSized p.seg size ps → IsHigh p size at (high_end w at to p ps)
-high_is w at to p ps size ar found page lt sized = by (covering (end_of p) ps) refl
-  where
-    Sized : flat.Piece → Type 0
-    Sized q = q.seg ≡ p.seg → q.first_page + q.pages ≤ size
-
-    by : (o : Option flat.Piece) → covering (end_of p) ps ≡ o → IsHigh p size at (high_end w at to p ps)
-    by None is =
-        let here = covering_there at lowest_address ps p ar found in
-        let own : p.first_page + p.pages ≤ size = covering-passes Sized at ps p sized found refl in
-        grind (arith, common_steps)
-    by (Some q) is =
-        let here = covering_there at lowest_address ps p ar found in
-        let own : p.first_page + p.pages ≤ size = covering-passes Sized at ps p sized found refl in
-        let above = covering_there (end_of p) lowest_address ps q ar is in
-        let next = covering-passes Sized (end_of p) ps q sized is in
-        grind (arith, common_steps)
 
 -- pieces of one segment have one table
 pub sized_by : (t : Tables) (p : Piece) (ps : List Piece) → OneTableEach t → HasTable t.slab p → All (HasTable t.slab) ps → AreSized p.seg (size_in (get t.slab p.key)) (bare_all ps)
@@ -107,6 +42,31 @@ sized_by t p (q ∷ qs) tied own all =
 
 pub stretch_of : (p : flat.Piece) (size at low high : ℕ) → IsLow p at low → IsHigh p size at high → IsStretch p low high
 stretch_of p size at low high l h = grind (arith, common_steps)
+
+-- the part that a step protects lies between these, and replaces what is there. There are no fewer pieces then
+pub record IsTurn (w : Bool) (at to : ℕ) (p : flat.Piece) (ps : List flat.Piece) (size : ℕ) : Type 0 where
+  pub low : IsLow p at (low_end w at to p ps)
+  pub high : IsHigh p size at (high_end w at to p ps)
+  pub replaced : turned w at to p ps ≡ inserted (part_between w (low_end w at to p ps) (high_end w at to p ps) p) (cut (low_end w at to p ps) (high_end w at to p ps) ps)
+  pub longer : length (turned w at to p ps) ≡ length (cut (low_end w at to p ps) (high_end w at to p ps) ps) + 1
+  pub more : length ps ≤ length (turned w at to p ps)
+
+pub turn_is : (w : Bool) (at to : ℕ) (p : flat.Piece) (ps : List flat.Piece) (size : ℕ) → Arranged lowest_address ps → covering at ps ≡ Some p → at % 4096 ≡ 0 → to % 4096 ≡ 0 → at < to
+    → AreSized p.seg size ps → IsTurn w at to p ps size
+turn_is w at to p ps size ar found page to-page order sized =
+    let laid = whole_fit lowest_address ps ar in
+    let aligned = laid-aligned lowest_address ps laid in
+    let few = All-weaker IsFit (λ (q : flat.Piece). q.first_page + q.pages ≤ MOST_SHMALL) (λ q fit. fit.few) ps (all_kind IsFit lowest_address ps ar) in
+    let replaced = turned-cut w at to p ps aligned found page to-page order laid in
+    let longer : length (turned w at to p ps) ≡ length (cut (low_end w at to p ps) (high_end w at to p ps) ps) + 1 =
+    ap length replaced ∙ length-inserted (part_between w (low_end w at to p ps) (high_end w at to p ps) p) (cut (low_end w at to p ps) (high_end w at to p ps) ps) in
+    record {
+      low = low_is w at to p ps aligned found page to-page order laid;
+      high = high_is w at to p ps aligned found page to-page order laid size few sized;
+      replaced = replaced;
+      longer = longer;
+      more = omega (arith, kept-many w at to p ps aligned found page to-page order laid, longer);
+    }
 
 -- THE PART CAN BE PLACED THERE
 

@@ -1,8 +1,6 @@
 -- If one piece serves the first addresses of an access, its first failure is that of the rest.
-use Rattle.shm_attach.proofs.Names.{◌≡◌, ℕ, zero, suc, ◌+◌, ◌<◌, ◌≤◌, Bool, true, false, List, Some, None, refl, arith, covering, place_covering}
+use Rattle.shm_attach.proofs.Names.{◌≡◌, ℕ, zero, suc, ◌+◌, ◌<◌, ◌≤◌, Bool, true, false, List, Some, None, refl, arith, covering, place_covering, place, is_allowed, first_failed}
 use Rattle.shm_base.specs.State.{Piece}
-use Rattle.shm_base.specs.Access.{place}
-use Rattle.shm_attach.specs.Failing.{is_allowed, first_failed}
 
 allowed-by : (w : Bool) (ps : List Piece) (p : Piece) (a : ℕ) → (w ≡ true → p.writable ≡ true) → covering a ps ≡ Some p → is_allowed w (place ps a) ≡ true
 allowed-by false ps p a may found = rw (place_covering a ps, found) refl

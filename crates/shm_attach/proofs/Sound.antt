@@ -1,8 +1,7 @@
 -- A change of one process keeps the counts exact, and each piece keeps its segment's table.
-use Rattle.shm_attach.proofs.Names.{is_live, true, false, true≢false, most_at, length-set_value_at, values_of, ◌≡◌, ◌≢◌, ℕ, ◌+◌, ◌<◌, ◌≤◌, List, [], length, Option, None, Some, slice_get, sym, subst, arith, common_steps, All, length-map, set_value_at, lowest_address, inserted, cut, without_named, pieces_of, bare_all, Arranged, arranged_cut, arranged_inserted, Tables, runner_view, runners_view, with_pieces_at, with_life_at, pieces_at, life_at, counted, stored_at, HasTable, OneTableEach, AllHaveTables, IsPlaceFor, AreCountsExact, AreTablesSound, HasReservations, no_reservations, one_reserved, Piece, Runner, MOST_PIECES, most_of_segment}
+use Rattle.shm_attach.proofs.Names.{is_live, true, false, true≢false, most_at, length-set_value_at, values_of, ◌≡◌, ◌≢◌, ℕ, ◌+◌, ◌<◌, ◌≤◌, List, [], length, Option, None, Some, slice_get, sym, subst, arith, common_steps, All, length-map, set_value_at, lowest_address, inserted, cut, without_named, pieces_of, bare_all, Arranged, arranged_cut, arranged_inserted, Tables, runner_view, runners_view, with_pieces_at, with_life_at, pieces_at, life_at, counted, stored_at, HasTable, OneTableEach, AllHaveTables, IsPlaceFor, AreCountsExact, AreTablesSound, HasReservations, no_reservations, one_reserved, Piece, Runner, MOST_PIECES, most_of_segment, attached_at, without_attach, without_segment, KeepFrames, IsPageRange}
 use Rattle.shm_base.specs.State as flat
-use Rattle.shm_attach.specs.Changes.{attached_at, without_attach, without_segment}
-use Rattle.shm_attach.specs.Mapping.{IsPageRange}
+use Rattle.shm_attach.specs.Changes as changes
 use Rattle.shm_attach.proofs.Processes.{some_if-le, runners_set, length-inserted, shorter_filter}
 use Rattle.shm_attach.proofs.Keeping.{IsExact-changed, IsExact-life, arranged-without, small_counts, own_counted}
 use Rattle.shm_attach.proofs.HavingTables.{most_at-set, stored_at-value, pieces_at-stored, stored_at-set, stored_at-other, tables-changed, tables-all}
@@ -10,14 +9,14 @@ use Rattle.shm_attach.proofs.HavingTables.{most_at-set, stored_at-value, pieces_
 -- ONE PROCESS
 
 -- it has other pieces
-pub record IsChanged (es fs : List (ℕ × Runner)) (i : ℕ) (f : List flat.Piece → List flat.Piece) (stored : List Piece) : Type 0 where
+record IsChanged (es fs : List (ℕ × Runner)) (i : ℕ) (f : List flat.Piece → List flat.Piece) (stored : List Piece) : Type 0 where
   pub runners : runners_view fs ≡ with_pieces_at (runners_view es) i f
   pub count : length fs ≡ length es
   pub own : stored_at fs i ≡ stored
   pub others : (j : ℕ) → j ≢ i → stored_at fs j ≡ stored_at es j
   pub most : (j : ℕ) → most_at fs j ≡ most_at es j
 
-pub changed : (es : List (ℕ × Runner)) (i : ℕ) (w v : Runner) (f : List flat.Piece → List flat.Piece) → Some w ≡ slice_get (values_of es) i → v.life ≡ w.life
+changed : (es : List (ℕ × Runner)) (i : ℕ) (w v : Runner) (f : List flat.Piece → List flat.Piece) → Some w ≡ slice_get (values_of es) i → v.life ≡ w.life
     → bare_all v.space.pieces ≡ f (bare_all w.space.pieces) → v.space.most ≡ w.space.most → IsChanged es (set_value_at es i v) i f v.space.pieces
 changed es i w v f at life space most = grind (arith, common_steps, runners_set, length-set_value_at, stored_at-set, stored_at-other, (most_at-set es i w v at most))
 
@@ -57,7 +56,7 @@ fit-attach extra es t i addr sound = by (attached_at addr (pieces_at (runners_vi
     by None = record { few = sound.exact.pieces i; order = sound.exact.arranged i; idle = sound.exact.idle i }
     by (Some seg) = fit-without extra es t i addr seg sound
 
-pub sound-changed : (extra : ℕ → ℕ) (es : List (ℕ × Runner)) (t u : Tables) (i : ℕ) (w v : Runner) (f : List flat.Piece → List flat.Piece) → i < length es
+sound-changed : (extra : ℕ → ℕ) (es : List (ℕ × Runner)) (t u : Tables) (i : ℕ) (w v : Runner) (f : List flat.Piece → List flat.Piece) → i < length es
     → Some w ≡ slice_get (values_of es) i → v.life ≡ w.life → bare_all v.space.pieces ≡ f (bare_all w.space.pieces) → v.space.most ≡ w.space.most → AreTablesSound extra es t
     → AreFit (runners_view es) i (f (pieces_at (runners_view es) i)) → (All (HasTable t.slab) w.space.pieces → All (HasTable t.slab) v.space.pieces)
     → IsRecounted t u (bare_all w.space.pieces) (f (bare_all w.space.pieces)) → AreTablesSound extra (set_value_at es i v) u
@@ -71,6 +70,23 @@ sound-changed extra es t u i w v f lt at life space most sound fit table re =
     let here : All (HasTable t.slab) (stored_at fs i) = rw ch.own (table (rw (stored_at-value es i w at) at (sound.tables i))) in
     let left : AllHaveTables fs t.slab = tables-changed es fs t.slab i sound.tables here ch.others in
     record { exact = exact; tied = re.tied; tables = tables-all extra fs t.slab u exact left re.tables }
+
+-- the whole change, with what pieces keep of their tables
+pub is_changed : (Kept : Type 0) (es : List (ℕ × Runner)) (t u : Tables) (i : ℕ) (w v : Runner) (f : List flat.Piece → List flat.Piece) → i < length es → Some w ≡ slice_get (values_of es) i → v.life ≡ w.life
+    → bare_all v.space.pieces ≡ f (bare_all w.space.pieces) → v.space.most ≡ w.space.most
+    → ((extra : ℕ → ℕ) → AreTablesSound extra es t → AreFit (runners_view es) i (f (pieces_at (runners_view es) i))) → (All (HasTable t.slab) w.space.pieces → All (HasTable t.slab) v.space.pieces)
+    → (OneTableEach t → IsRecounted t u (bare_all w.space.pieces) (f (bare_all w.space.pieces))) → Kept → KeepFrames t.slab u.slab → changes.IsChanged Kept es (set_value_at es i v) t u i f
+is_changed Kept es t u i w v f lt at life space most fit table re kept frames =
+    let ch = changed es i w v f at life space most in
+    record {
+      runners = ch.runners;
+      count = ch.count;
+      others = ch.others;
+      most = ch.most;
+      sound = λ extra s. sound-changed extra es t u i w v f lt at life space most s (fit extra s) table (re s.tied);
+      tables = kept;
+      translated = frames;
+    }
 
 pub sound-life : (es fs : List (ℕ × Runner)) (t : Tables) (i : ℕ) (l : flat.Life) → i < length es → (is_live l ≡ false → pieces_at (runners_view es) i ≡ []) → AreTablesSound no_reservations es t
     → runners_view fs ≡ with_life_at (runners_view es) i l → ((j : ℕ) → stored_at fs j ≡ stored_at es j) → AreTablesSound no_reservations fs t

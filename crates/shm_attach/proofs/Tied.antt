@@ -1,6 +1,5 @@
 -- One table for each segment with pieces, after a change of the map and of the slab.
-use Rattle.shm_attach.proofs.Names.{◌≡◌, ◌≢◌, ℕ, ◌<◌, Option, Some, None, refl, arith, common_steps, cases_eq, none-some, Slab, get, with_value, Updates, PageRef, Tables, seg_in, count_in, TrueTable, TrueSlot, AllTrue, with_frame, counted, counted_under, key_of, HasTable, OneTableEach, Piece, TableView, ◌∙◌, ◌≤◌, length, size_in}
-use Rattle.shm_attach.specs.Tables.{KeepCounts, KeepTables}
+use Rattle.shm_attach.proofs.Names.{◌≡◌, ◌≢◌, ℕ, ◌<◌, Option, Some, None, refl, arith, common_steps, cases_eq, none-some, Slab, get, with_value, Updates, PageRef, Tables, seg_in, count_in, TrueTable, TrueSlot, AllTrue, with_frame, counted, counted_under, key_of, HasTable, OneTableEach, Piece, TableView, ◌∙◌, ◌≤◌, length, size_in, KeepCounts, KeepTables}
 
 -- a piece that has its table is counted
 pub table-counted : (t : Tables) (p : Piece) → OneTableEach t → HasTable t.slab p → 0 < counted t p.seg

@@ -1,12 +1,6 @@
 -- Tables whose frames become known.
-use Rattle.std.proofs.Common.{◌≡◌, ℕ, ◌+◌, ◌<◌, ◌≤◌, List, Option, None, length, get_or, set, sym, ◌∙◌, arith, inl, inr, ◌⊎◌}
-use Rattle.std.proofs.lemmas.Grind.{common_steps}
-use Rattle.std.proofs.lemmas.Bool.{cases_lt}
-use Rattle.std.proofs.lemmas.List.{get_or_past}
-use Rattle.shm_base.specs.declared.paging.PageRef.{PageRef}
-use Rattle.shm_base.specs.Stored.{padded}
-use Rattle.shm_base.proofs.Stored.{get_or-padded}
-use Rattle.shm_attach.specs.Table.{TableView, TrueTable, with_frame}
+use Rattle.std.proofs.lemmas.Bool.Decides.{nat_tests}
+use Rattle.shm_attach.proofs.Names.{◌≡◌, ℕ, ◌<◌, ◌≤◌, List, Option, None, length, get_or, set, ◌∙◌, arith, common_steps, get_or_past, PageRef, padded, get_or-padded, TableView, TrueTable, with_frame}
 
 abbrev table_of : ℕ → ℕ → List (Option ℕ) → TableView
 table_of seg count fs = record { seg = seg; count = count; frames = fs }
@@ -23,15 +17,7 @@ pub record KnownBelow (at : ℕ → Option ℕ) (page : ℕ) (fs : List (Option 
 
 -- pages that are not resident are known at once
 pub known-over : (at : ℕ → Option ℕ) (first next : ℕ) (fs : List (Option ℕ)) → first ≤ next → ((page : ℕ) → first ≤ page → page < next → at page ≡ None) → KnownBelow at first fs → KnownBelow at next fs
-known-over at first next fs on none k =
-    record {
-      known = λ j lt. by j lt (cases_lt j first);
-      rest = λ j past. k.rest j (omega (arith, past, on));
-    }
-  where
-    by : (j : ℕ) → j < next → (j < first) ⊎ (first ≤ j) → get_or fs j None ≡ at j
-    by j lt (inl before) = k.known j before
-    by j lt (inr from) = k.rest j from ∙ sym (none j from lt)
+known-over at first next fs on none k = grind (arith, common_steps, nat_tests)
 
 -- the pages of a true table are known, and those that are new to it are not
 pub known-first : (at : ℕ → Option ℕ) (n : ℕ) (fs : List (Option ℕ)) → ((j : ℕ) → j < length fs → get_or fs j None ≡ at j) → KnownBelow at (length fs) (padded fs n None)

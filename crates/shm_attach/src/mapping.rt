@@ -129,7 +129,6 @@ fn protect_piece(
     ensures protects { IsProtectedAt processes.old.entries processes.new.entries index writable at to result }
     ensures now { let fs = processes.new.entries in
         AreNow processes.old.entries fs tables.old tables.new index (held fs index) }
-    ensures own { KeepsOwn (held processes.old.entries index) (held processes.new.entries index) }
     ensures grows { IfOk result (λ p. Grows processes.old.entries processes.new.entries index p.split) }
     ensures further { IfOk result (λ passed. (at + 4096 ≤ passed.end) × (passed.end % 4096 ≡ 0)) }
 {
@@ -178,8 +177,6 @@ fn protect_range(
     ensures refusal { refusal_in result ≡ refusal_between processes.old.entries index writable from to }
     ensures now { let ps = pieces_between processes.old.entries index writable from to in
         AreNow processes.old.entries processes.new.entries tables.old tables.new index ps }
-    ensures own { let es = processes.old.entries in
-        KeepsOwn (held es index) (pieces_between es index writable from to) }
     ensures split { lost.new.segments ≡ split_between processes.old.entries index writable from to }
     ensures reserved { lost.new.most ≡ lost.old.most }
 {

@@ -1,6 +1,5 @@
 -- The places of an access: each lies in a piece, and each of a write in a writable one; and what the access does there.
-use Rattle.shm_laws.proofs.Names.{◌≡◌, ℕ, suc, zero, ◌+◌, ◌<◌, true, false, List, [], ◌∷◌, length, Option, Some, slice_get, refl, sym, ap, ◌∙◌, inl, inr, arith, get_or, common_steps, Contains, cases_Bool, and_parts, none-some, slice_get-get_or, Piece, Place, covers, place_by, place, places, all_writable, only_writable, ◌⊎◌, ◌%◌, ◌^◌, None, true≢false, w64, to_le_bytes, ProcessCall, Load, Store, Xadd, Exchange, CompareExchange, Reply, Done, Number, Bytes, Machine, Caller, Outcome, acts, load, store, xadd, exchange, compare_exchange, number_at, loaded, stored, same_bytes, writable_places, is_refusal, Reach, reach, Put, put, subst}
-use Rattle.shm_life.proofs.Asking.{pick_by}
+use Rattle.shm_laws.proofs.Names.{◌≡◌, ℕ, suc, zero, ◌+◌, ◌<◌, true, false, List, [], ◌∷◌, length, Option, Some, slice_get, refl, sym, ap, ◌∙◌, inl, inr, arith, get_or, common_steps, Contains, cases_Bool, and_parts, none-some, slice_get-get_or, Piece, Place, covers, place_by, place, places, all_writable, only_writable, ◌⊎◌, ◌%◌, ◌^◌, None, true≢false, w64, to_le_bytes, ProcessCall, Load, Store, Xadd, Exchange, CompareExchange, Reply, Done, Number, Bytes, Machine, Caller, Outcome, acts, load, store, xadd, exchange, compare_exchange, number_at, loaded, stored, same_bytes, writable_places, is_refusal, Reach, reach, Put, put, subst, pick_by}
 
 -- the piece in which an address lies
 pub record LiesIn (ps : List Piece) (a : ℕ) (q : Place) : Type 0 where
@@ -74,7 +73,7 @@ pub record Stores (s : Machine) (c : Caller) (p : Option Put) (t : Machine) : Ty
   pub found : places c.pieces what.from (length what.bytes) ≡ Some spots
   pub state : t ≡ record s { table = stored s.table spots what.bytes }
 
--- any other access leaves the machine as it was
+-- an access that puts nothing leaves the machine as it was; any other stores its bytes
 abbrev pub Changes : Machine → Caller → Option Put → Machine → Type 0
 Changes s c p t = ((p ≡ None) × (t ≡ s)) ⊎ Stores s c p t
 

@@ -1,9 +1,8 @@
 -- By how much each move changes how many pieces there are.
-use Rattle.shm_laws.proofs.Names.{ChangesItsOwn, Cred, Mprotect, Munmap, ◌≤◌, occupied-cut, protects_pieces, rounded, stops_midway, ◌≡◌, ◌≢◌, ◌⊎◌, ℕ, ◌+◌, ◌*◌, ◌<◌, ◌==◌, ℤ, pos, Bool, true, false, not, if◌then◌else◌, List, [], ◌∷◌, Option, Some, slice_set, refl, sym, ap, ◌∙◌, inl, inr, arith, common_steps, filter, subst, flat_map-cons, none-some, ShmidDs, ProcessCall, Shmat, Shmdt, Fork, Exec, Exit, Addr, Done, Event, AtFlags, Piece, Live, Runner, Machine, Look, look, occupied, cut, origin_of, is_named, without_named, pieces_of, attach_count, Caller, Outcome, caller_of, acts, step_by, is_remap, stat, is_refusal, IsMove, one_more, pieces_of-inserted, pieces_of-filter, sum-set, piece_count, hands_pieces, CountsPieces, IsFreeFor, Stands, pieces_of_caller}
+use Rattle.shm_laws.proofs.Names.{ChangesItsOwn, Cred, Mprotect, Munmap, ◌≤◌, occupied-cut, protects_pieces, rounded, stops_midway, ◌≡◌, ◌≢◌, ◌⊎◌, ℕ, ◌+◌, ◌*◌, ◌<◌, ◌==◌, ℤ, pos, Bool, true, false, not, if◌then◌else◌, List, [], ◌∷◌, Option, Some, slice_set, refl, sym, ap, ◌∙◌, inl, inr, arith, common_steps, filter, subst, flat_map-cons, none-some, ShmidDs, ProcessCall, Shmat, Shmdt, Fork, Exec, Exit, Addr, Done, Event, AtFlags, Piece, Live, Runner, Machine, Look, look, occupied, cut, origin_of, is_named, without_named, pieces_of, attach_count, Caller, Outcome, caller_of, acts, step_by, is_remap, stat, is_refusal, IsMove, one_more, pieces_of-inserted, pieces_of-filter, sum-set, piece_count, hands_pieces, CountsPieces, IsFreeFor, Stands, pieces_of_caller, caller-at, caller-set, count-named, protected-keeps}
 use Rattle.shm_base.specs.declared.call.Call.TheVariants as calls
 use Rattle.shm_base.specs.declared.call.Reply.TheVariants as replies
-use Rattle.shm_laws.proofs.Callers.{caller-at, caller-set, caller-there, kept-set}
-use Rattle.shm_laws.proofs.Protecting.{protected-keeps}
+use Rattle.shm_laws.proofs.Callers.{caller-there}
 use Rattle.shm_laws.proofs.Handing.{Takes, Attaches, Leaves, Unmaps, Protects, Hands, none-stay, hands-acts}
 use Rattle.shm_laws.proofs.Looks.{found-own, one-segment}
 use Rattle.shm_laws.proofs.Refusing.{by-move}
@@ -36,10 +35,7 @@ named-fewer addr (q ∷ qs) p found =
 module _ (s : Machine) (pid : ℕ) (c : Caller) (live : caller_of s pid ≡ Some c) (bare : Bare s.runners) (call : ProcessCall) (o : Outcome) where
   -- the caller's pieces go and others come
   swap : (r : Runner) (j : ℕ) → attach_count (slice_set s.runners c.index r) j + pieces_of j c.pieces ≡ attach_count s.runners j + pieces_of j r.pieces
-  swap r j =
-      let at = caller-at 0 pid s.runners c live in
-      let place : at.place ≡ c.index = omega (arith, at.at) in
-      sum-set (λ (y : Runner). pieces_of j y.pieces) s.runners c.index r (record { pid = pid; life = Live c.cred; pieces = c.pieces }) (rw place at at.there)
+  swap r j = sum-set (λ (y : Runner). pieces_of j y.pieces) s.runners c.index r (record { pid = pid; life = Live c.cred; pieces = c.pieces }) (caller-at pid s.runners c live).there
 
   mine : (j : ℕ) → piece_count s pid j ≡ pieces_of j c.pieces
   mine j = ap (λ h. pieces_of j (pieces_of_caller h)) live
@@ -85,7 +81,7 @@ module _ (s : Machine) (pid : ℕ) (c : Caller) (live : caller_of s pid ≡ Some
   own-change : (cred : Cred) (ps : List Piece) → o.state.runners ≡ slice_set s.runners c.index (record { pid = c.pid; life = Live cred; pieces = ps })
       → ChangesItsOwn s pid o.state × (pieces_of_caller (caller_of o.state pid) ≡ ps)
   own-change cred ps is =
-      let after : caller_of o.state pid ≡ Some (record { index = c.index; pid = c.pid; cred = cred; pieces = ps }) = rw is (caller-set 0 pid s.runners c c.index cred ps live (omega arith)) in
+      let after : caller_of o.state pid ≡ Some (record { index = c.index; pid = c.pid; cred = cred; pieces = ps }) = rw is (caller-set pid s.runners c cred ps live) in
       (λ j. grind (arith, swap (record { pid = c.pid; life = Live cred; pieces = ps }) j, mine j, after, is), ap pieces_of_caller after)
 
   unmap-counts : Hands s c call o → (addr len : ℕ) → call ≡ Munmap addr len → o.reply ≡ Done
@@ -102,7 +98,7 @@ module _ (s : Machine) (pid : ℕ) (c : Caller) (live : caller_of s pid ≡ Some
       let k : Protects s c call o = grind arith in
       let ps = (protects_pieces s.limits.most_pieces k.writable k.addr k.len c.pieces).pieces in (
         (own-change c.cred ps k.runners).0,
-        λ j some. rw k.runners (kept-set s.runners c.index (record { pid = c.pid; life = Live c.cred; pieces = c.pieces }) (record { pid = c.pid; life = Live c.cred; pieces = ps }) (caller-there s pid c live)
+        λ j some. rw k.runners (count-named s.runners c.index (record { pid = c.pid; life = Live c.cred; pieces = ps }) (record { pid = c.pid; life = Live c.cred; pieces = c.pieces }) (caller-there s pid c live)
             (λ id had. protected-keeps s.limits.most_pieces k.writable k.addr k.len id c.pieces had) j some),
       )
 

@@ -1,6 +1,6 @@
 -- No move gives a process other credentials than it asked for.
-use Rattle.shm_laws.proofs.Names.{IsAskedFor, Setuid, subst, ◌≡◌, ◌≢◌, ◌⊎◌, ℕ, List, get_or, Some, slice_get, slice_set, refl, sym, ap, ◌∙◌, inl, inr, arith, cases_eq, slice_get-get_or, Fork, Event, Live, Ended, Runner, Machine, Cred, Caller, Outcome, caller_of, acts, IsMove, child_at, first_runner, life_in, get-set_other, IsBornWith, KeepsCredentials, Life}
-use Rattle.shm_laws.proofs.Callers.{CallerAt, caller-at, caller-there}
+use Rattle.shm_laws.proofs.Names.{IsAskedFor, Setuid, subst, ◌≡◌, ◌≢◌, ◌⊎◌, ℕ, List, get_or, Some, slice_get, slice_set, refl, sym, ap, ◌∙◌, inl, inr, cases_eq, slice_get-get_or, Fork, Event, Live, Ended, Runner, Machine, Cred, Caller, Outcome, caller_of, acts, IsMove, child_at, first_runner, life_in, get-set_other, IsBornWith, KeepsCredentials, Life, CallerAt, caller-at}
+use Rattle.shm_laws.proofs.Callers.{caller-there}
 use Rattle.shm_laws.proofs.Handing.{Credits, Forks, Hands, by-hands, hands-acts}
 use Rattle.shm_laws.proofs.Refusing.{by-move}
 use Rattle.shm_laws.proofs.Turning.{set-got}
@@ -28,14 +28,12 @@ had-set s e i r own k now cred is live = by (cases_eq i k)
     by (inr apart) = had-same s e k now cred (sym (get-set_other s.runners i k r apart) ∙ is) live
 
 module _ (s : Machine) (pid : ℕ) (c : Caller) (live : caller_of s pid ≡ Some c) (e : Event) (own : e.pid ≡ pid) where
-  at : CallerAt 0 pid s.runners c
-  at = caller-at 0 pid s.runners c live
+  at : CallerAt pid s.runners c
+  at = caller-at pid s.runners c live
 
   -- the caller has its credentials
   mine : (cred : Cred) → Live c.cred ≡ Live cred → Had s e c.index c.pid cred
-  mine cred same =
-      let place : at.place ≡ c.index = omega (arith, at.at) in
-      (record { pid = pid; life = Live c.cred; pieces = c.pieces }, ap (slice_get s.runners) (sym place) ∙ at.there, sym at.own, inl same)
+  mine cred same = (record { pid = pid; life = Live c.cred; pieces = c.pieces }, at.there, sym at.own, inl same)
 
   module _ (o : Outcome) (told : e.reply ≡ o.reply) where
     left : (life : Life) (cred : Cred) → (life ≡ Live c.cred) ⊎ (life ≡ Ended) → life ≡ Live cred → Had s e c.index c.pid cred

@@ -105,13 +105,13 @@ module _ (over : ℕ → List ℕ → List ℕ) (like : Segment → Type 0) (r :
       elim (cases_eq k.index i) [
         | inl h ↦
             inr (record {
-              destroyed = m.destroyed;
-              empty = subst (IsEmpty m.destroyed) (ap (slice_get s.table) h) m.empty;
+              destroyed = destroyed_at s.table k.index;
+              empty = subst (IsEmpty (destroyed_at s.table k.index)) (ap (slice_get s.table) h) m.empty;
               new =
                   record {
                     now = k.segment;
                     made = k.made;
-                    answer = k.answer ∙ (λ j. Id (pos (identifier (h j) (m.count j))));
+                    answer = k.answer ∙ (λ j. Id (pos (identifier (h j) (destroyed_at s.table k.index))));
                     dest = k.fresh;
                     zeros = k.zeros;
                     at = table ∙ sym (ap (slice_get (with_segment s.table k.index k.segment)) h) ∙ m.here;

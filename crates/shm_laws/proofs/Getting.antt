@@ -1,9 +1,8 @@
 -- The reply of a shmget: the segment that has its key, with the permission that it asks for; or a new one if none has the key.
-use Rattle.shm_laws.proofs.Names.{◌≡◌, ◌≢◌, ◌⊎◌, ℕ, zero, suc, ◌+◌, ◌/◌, ◌%◌, ◌<◌, ℤ, pos, true, List, [], ◌∷◌, Option, Some, None, slice_get, refl, sym, ap, subst, ◌∙◌, inl, inr, arith, common_steps, true≢false, none-some, cases_Bool, cases_lt, Errno, GetFlags, ProcessCall, Shmget, Reply, Id, Event, Segment, Entry, Machine, Found, grants, wish_of, identifier, destroyed_in, destroyed_at, free_index, with_segment, look_segment, has_key, key_from, find_key, Caller, Outcome, caller_of, acts, gives, refuses, new_segment, shmget, is_refusal, IsMove, Stands, HasKey, IsCreated}
+use Rattle.shm_laws.proofs.Names.{◌≡◌, ◌≢◌, ◌⊎◌, ℕ, zero, suc, ◌+◌, ◌/◌, ◌%◌, ◌<◌, ℤ, pos, true, List, [], ◌∷◌, Option, Some, None, slice_get, refl, sym, ap, subst, ◌∙◌, inl, inr, arith, common_steps, true≢false, none-some, cases_Bool, cases_lt, Errno, GetFlags, ProcessCall, Shmget, Reply, Id, Event, Segment, Entry, Machine, Found, grants, wish_of, identifier, destroyed_in, destroyed_at, free_index, with_segment, look_segment, has_key, key_from, find_key, Caller, Outcome, caller_of, acts, gives, refuses, new_segment, shmget, is_refusal, IsMove, Stands, HasKey, IsCreated, IsFree, by-shmget}
 use Rattle.shm_laws.proofs.Fresh.{made-at, never}
 use Rattle.shm_laws.proofs.Looks.{holds, stands-at, at-stands}
 use Rattle.shm_laws.proofs.Refusing.{by-move}
-use Rattle.shm_life.proofs.Asking.{IsFree, by-shmget}
 use Rattle.shm_laws.proofs.Fates.{IsShort, new-small}
 
 -- THE SEARCH FOR A KEY
@@ -124,11 +123,11 @@ module _ (s : Machine) (n : ℕ) (c : Caller) (short : IsShort s.table) (mode : 
         cc told,
         inr (record {
           free = free;
-          never = never s.table id m.destroyed (slice_get s.table i) (ap (slice_get s.table) low) m.empty (sym m.count ∙ sym high);
+          never = never s.table id (destroyed_at s.table i) (slice_get s.table i) (ap (slice_get s.table) low) m.empty (sym high);
           has =
               record {
                 segment = x;
-                stands = at-stands (with_segment s.table i x) id x (ap (slice_get (with_segment s.table i x)) low ∙ m.here ∙ ap (λ d. holds d x) (sym m.count ∙ sym high));
+                stands = at-stands (with_segment s.table i x) id x (ap (slice_get (with_segment s.table i x)) low ∙ m.here ∙ ap (λ d. holds d x) (sym high));
                 keyed = refl;
               };
         }),

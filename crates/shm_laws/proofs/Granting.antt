@@ -1,15 +1,13 @@
 -- Each piece descends from a shmat that had permission, and each move refuses processes without it.
-use Rattle.shm_laws.proofs.Names.{IsProtected, Protected, ShareTheirPages, protects_pieces, rounded, ◌≤◌, ◌≡◌, ◌⊎◌, ℕ, ◌+◌, ◌*◌, ◌%◌, ◌<◌, ℤ, true, false, not, List, [], ◌∷◌, ◌++◌, length, get_or, Some, slice_set, refl, sym, ap, subst, ◌∙◌, inl, inr, arith, true≢false, All, Contains, none-some, slice_get_within, get_or_from_slice_get, All-nil, All-filter, All-map, All-weaker, All-contains, Contains-get_or, common_steps, ProcessCall, Done, Event, Place, covers, Segment, Piece, Live, Runner, Machine, Opening, start_of, runner_at_start, look, parts, cut, Caller, Outcome, caller_of, acts, pieces_with, controls, is_refusal, IsMove, IsHistory, all-slice_set, HasPiece, EachPiece, IsPart, IsGranted, IsInherited, GoesBack, Granted, Kept, Inherited, Reach, StaysInside, controlled, OwnerAsks, KeepsOut, MayAsk, ShmidDs, pos, negsuc, stat, wish_of, grants, not-false, Look, Found, Removed, Invalid, Stands, IsCreated, Swapoff, swapoff, IsUserZero, ◌==◌, Set, Rmid, Lock, Unlock, sets, removes, locks, unlocks, piece_for}
+use Rattle.std.proofs.lemmas.Bool.Decides.{nat_tests}
+use Rattle.shm_laws.proofs.Names.{IsProtected, Protected, ShareTheirPages, protects_pieces, rounded, ◌≤◌, ◌≡◌, ◌⊎◌, ℕ, ◌+◌, ◌*◌, ◌%◌, ◌<◌, ℤ, true, false, not, List, [], ◌∷◌, ◌++◌, length, get_or, Some, slice_set, refl, sym, ap, subst, ◌∙◌, inl, inr, arith, true≢false, All, Contains, none-some, slice_get_within, get_or_from_slice_get, All-nil, All-filter, All-map, All-weaker, All-contains, Contains-get_or, common_steps, ProcessCall, Done, Event, Place, covers, Segment, Piece, Live, Runner, Machine, Opening, start_of, runner_at_start, look, parts, cut, Caller, Outcome, caller_of, acts, pieces_with, controls, is_refusal, IsMove, IsHistory, all-slice_set, HasPiece, EachPiece, IsPart, IsGranted, IsInherited, GoesBack, Granted, Kept, Inherited, Reach, StaysInside, controlled, OwnerAsks, KeepsOut, MayAsk, ShmidDs, pos, negsuc, stat, wish_of, grants, not-false, Look, Found, Removed, Invalid, Stands, Swapoff, swapoff, IsUserZero, ◌==◌, Set, Rmid, Lock, Unlock, sets, removes, locks, unlocks, piece_for, CallerAt, caller-at, all-flat_map, all-inserted, protected-comes, Comes, IsAligned, pick_by, is-zero}
 use Rattle.shm_laws.proofs.Accessing.{lies-in, place-of, writable-at, Finds, accesses}
-use Rattle.shm_laws.proofs.Callers.{CallerAt, caller-at}
-use Rattle.shm_laws.proofs.Handing.{Attaches, Leaves, Forks, Unmaps, Protects, Credits, Hands, hands-acts}
-use Rattle.shm_laws.proofs.Protecting.{Comes, protected-comes}
-use Rattle.shm_laws.proofs.Parting.{IsAligned, part_refl, all-parts, all-cut, all-inserted}
+use Rattle.shm_laws.proofs.Handing.{Attaches, Protects, Hands, by-hands, hands-acts}
+use Rattle.shm_laws.proofs.Parting.{part_refl, all-parts, shares}
 use Rattle.shm_laws.proofs.Looks.{found-own}
 use Rattle.shm_laws.proofs.Refusing.{by-move}
-use Rattle.shm_life.proofs.Asking.{pick_by, is-zero}
 use Rattle.shm_laws.proofs.Fates.{IsMachineSound}
-use Rattle.shm_laws.proofs.Getting.{IsGot, GetsBy, gets-move}
+use Rattle.shm_laws.proofs.Getting.{GetsBy, gets-move}
 use Rattle.shm_base.specs.declared.call.Call.TheVariants as calls
 use Rattle.shm_base.specs.declared.call.Reply.TheVariants as replies
 
@@ -49,11 +47,11 @@ module _ (s : Machine) (pid : ℕ) (c : Caller) (is : caller_of s pid ≡ Some c
   abbrev me : Runner
   me = record { pid = pid; life = Live c.cred; pieces = c.pieces }
 
-  there : CallerAt 0 pid s.runners c
-  there = caller-at 0 pid s.runners c is
+  there : CallerAt pid s.runners c
+  there = caller-at pid s.runners c is
 
   pub me-is : Contains s.runners me
-  me-is = (there.place, slice_get_within s.runners there.place me there.there, get_or_from_slice_get s.runners there.place me me there.there)
+  me-is = (c.index, slice_get_within s.runners c.index me there.there, get_or_from_slice_get s.runners c.index me me there.there)
 
   pub mine : All (HasPiece s pid) c.pieces
   mine = has-own s me me-is
@@ -70,12 +68,12 @@ module _ (s : Machine) (pid : ℕ) (c : Caller) (is : caller_of s pid ≡ Some c
 
     given-cut : (from to : ℕ) → from % 4096 ≡ 0 → to % 4096 ≡ 0 → All (IsPieceGiven s e pid) (cut from to c.pieces)
     given-cut from to page-from page-to =
-        all-cut (λ p. HasPiece s pid p × IsAligned p) (IsPieceGiven s e pid) from to
+        all-flat_map (λ p. HasPiece s pid p × IsAligned p) (IsPieceGiven s e pid) (parts from to)
         (λ p h. All-weaker (λ q. IsPart q p) (IsPieceGiven s e pid) (λ q part. inl (p, h.0, part)) (parts from to p) (all-parts from to page-from page-to p h.1))
         c.pieces (λ j d lt. (mine j d lt, pages j d lt))
 
-    given-attaches : Attaches s c call o → AllGiven s e o.state.runners
-    given-attaches k = rw k.runners (given-set c.index (record { pid = c.pid; life = Live c.cred; pieces = pieces_with c k.flags k.place }) own)
+    given-attaches : (k : Attaches s c call o) → All (IsPieceGiven s e c.pid) (pieces_with c k.flags k.place)
+    given-attaches k = own
       where
         new : IsPieceGiven s e pid (piece_for k.flags k.place)
         new =
@@ -99,20 +97,11 @@ module _ (s : Machine) (pid : ℕ) (c : Caller) (is : caller_of s pid ≡ Some c
         own : All (IsPieceGiven s e c.pid) (pieces_with c k.flags k.place)
         own = let page = k.there.lies.page pages in rw there.own (all-inserted (IsPieceGiven s e pid) _ _ new (given-cut k.place.base (k.place.base + 4096 * k.place.pages) page (omega (arith, page))))
 
-    given-leaves : Leaves s c call o → AllGiven s e o.state.runners
-    given-leaves k =
-        rw k.runners
-        (given-set c.index (record { pid = c.pid; life = k.life; pieces = _ })
-        (rw there.own (All-filter k.stays (IsPieceGiven s e pid) c.pieces (All-weaker (HasPiece s pid) (IsPieceGiven s e pid) (λ p h. inl (p, h, part_refl p)) c.pieces mine))))
+    kept-own : All (IsPieceGiven s e pid) c.pieces
+    kept-own = All-weaker (HasPiece s pid) (IsPieceGiven s e pid) (λ p h. inl (p, h, part_refl p)) c.pieces mine
 
-    given-forks : Forks s c call o → AllGiven s e o.state.runners
-    given-forks k = grind (arith, common_steps, given-set, mine)
-
-    given-unmaps : Unmaps s c call o → AllGiven s e o.state.runners
-    given-unmaps k = rw k.runners (given-set c.index (record { pid = c.pid; life = Live c.cred; pieces = _ }) (rw there.own (given-cut k.addr (k.addr + rounded k.len) k.page (omega (arith, k.page)))))
-
-    given-protects : Protects s c call o → AllGiven s e o.state.runners
-    given-protects k = rw k.runners (given-set c.index (record { pid = c.pid; life = Live c.cred; pieces = _ }) (rw there.own all))
+    given-protects : (k : Protects s c call o) → All (IsPieceGiven s e pid) (protects_pieces s.limits.most_pieces k.writable k.addr k.len c.pieces).pieces
+    given-protects k = all
       where
         has : (p : Piece) → Contains c.pieces p → HasPiece s pid p
         has p h = All-contains (HasPiece s pid) c.pieces p mine h
@@ -128,31 +117,24 @@ module _ (s : Machine) (pid : ℕ) (c : Caller) (is : caller_of s pid ≡ Some c
                 len = k.len;
                 writable = k.writable;
                 call = k.asked;
-                attach = x.attach;
+                attach = shares p x.of x.attach;
                 may_write = x.may_write;
                 limited = x.limited;
-                there = λ a h. let r = x.there a h in (r.0, has r.0 r.1, r.2, r.3);
+                there = λ a h. let r = x.there a h in (r.0, has r.0 r.1, r.2, shares p r.0 r.3);
               };
-              reach = (x.reach.0, has x.reach.0 x.reach.1, x.reach.2, x.reach.3);
+              reach = (x.reach.0, has x.reach.0 x.reach.1, shares p x.reach.0 x.reach.2, x.reach.3);
             })))
 
         all : All (IsPieceGiven s e pid) (protects_pieces s.limits.most_pieces k.writable k.addr k.len c.pieces).pieces
         all = All-weaker (Comes c.pieces) (IsPieceGiven s e pid) from _ (protected-comes s.limits.most_pieces k.writable k.addr k.len c.pieces pages)
 
-    given-credits : Credits s c call o → AllGiven s e o.state.runners
-    given-credits k =
-        rw k.runners
-        (given-set c.index (record { pid = c.pid; life = Live k.cred; pieces = c.pieces })
-        (rw there.own (All-weaker (HasPiece s pid) (IsPieceGiven s e pid) (λ p h. inl (p, h, part_refl p)) c.pieces mine)))
-
     given-hands : Hands s c call o → AllGiven s e o.state.runners
-    given-hands (inl k) = rw k.runners (kept-all s e)
-    given-hands (inr (inl k)) = given-attaches k
-    given-hands (inr (inr (inl k))) = given-leaves k
-    given-hands (inr (inr (inr (inl k)))) = given-forks k
-    given-hands (inr (inr (inr (inr (inl k))))) = given-unmaps k
-    given-hands (inr (inr (inr (inr (inr (inl k)))))) = given-protects k
-    given-hands (inr (inr (inr (inr (inr (inr k)))))) = given-credits k
+    given-hands =
+        by-hands s c call o (AllGiven s e) (λ i r. All (IsPieceGiven s e r.pid) r.pieces) (kept-all s e) given-set given-attaches
+        (λ k. rw there.own (All-filter k.stays (IsPieceGiven s e pid) c.pieces kept-own))
+        (λ k j d lt. inr (inl (record { call = k.asked; reply = k.answer; parent = mine j d lt })))
+        (λ k. rw there.own (given-cut k.addr (k.addr + rounded k.len) k.page (omega (arith, k.page))))
+        (λ k. rw there.own (given-protects k)) (λ k. rw there.own kept-own)
 
 pub given-move : (s : Machine) (n : ℕ) (e : Event) (t : Machine) → Aligned s → IsMove s n e t → EachPiece (IsPieceGiven s e) t
 given-move s n e t aligned =
@@ -273,14 +255,7 @@ keeps s n e t =
 
 -- a process that gets an existing segment had the permissions that the mode asks for
 got-granted : (s : Machine) (pid key mode id : ℕ) (t : Machine) (x : Segment) → Stands s id x → GetsBy s pid key mode (pos id) t → MayAsk s pid id (wish_of s.limits.rules mode)
-got-granted s pid key mode id t x stood g = by g.either
-  where
-    same : g.id ≡ id
-    same = cc (sym g.named)
-
-    by : IsGot s g.caller key mode g.id ⊎ IsCreated s key g.id t → MayAsk s pid id (wish_of s.limits.rules mode)
-    by (inl h) = record { caller = g.caller; live = g.live; segment = h.segment; stands = subst (λ n. Stands s n h.segment) same h.stands; permitted = h.permitted }
-    by (inr h) = let gone : look s.table (pos id) ≡ Invalid = subst (λ n. look s.table (pos n) ≡ Invalid) same h.never in absurd (cc (sym gone ∙ stood))
+got-granted s pid key mode id t x stood g = grind (arith, common_steps, nat_tests)
 
 pub keeps-out : (s : Machine) (n : ℕ) (e : Event) (t : Machine) → IsMachineSound s → IsMove s n e t → KeepsOut s e t
 keeps-out s n e t sound m =

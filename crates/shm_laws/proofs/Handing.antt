@@ -1,9 +1,7 @@
 -- What each call does to processes: nothing; or the caller attaches a segment, loses pieces, has a child, unmaps or protects a
 -- range, or gets other credentials.
-use Rattle.shm_laws.proofs.Names.{subst, cut, Cred, Munmap, Mprotect, Setuid, Outcome, stops_midway, unmaps, unmapped_to, rounded, protects_pieces, with_cred, ◌≡◌, ◌⊎◌, ℕ, ◌+◌, ◌%◌, ◌≤◌, ℤ, pos, Bool, true, false, not, nat_lt, List, [], ◌∷◌, length, Option, Some, None, slice_set, refl, ap, ◌∙◌, inl, inr, arith, common_steps, filter, Errno, ProcessCall, Shmget, Shmat, Shmdt, Fork, Exec, Exit, Addr, Done, AtFlags, Piece, Life, Live, Ended, Machine, origin_of, is_named, is_refusal, refuses, Caller, acts, pieces_with, with_pieces, detaches, forks, unborn_from, hands_pieces, attaches_if, Placed, placed, Runner}
-use Rattle.std.specs.Prelude.{Result, Ok, Err}
+use Rattle.shm_laws.proofs.Names.{subst, cut, Cred, Munmap, Mprotect, Setuid, Outcome, stops_midway, unmaps, unmapped_to, rounded, protects_pieces, with_cred, ◌≡◌, ◌⊎◌, ℕ, ◌+◌, ◌%◌, ◌≤◌, ℤ, pos, Bool, true, false, not, nat_lt, List, [], ◌∷◌, length, Option, Some, None, slice_set, refl, ap, ◌∙◌, inl, inr, arith, common_steps, filter, Errno, ProcessCall, Shmget, Shmat, Shmdt, Fork, Exec, Exit, Addr, Done, AtFlags, Piece, Life, Live, Ended, Machine, origin_of, is_named, is_refusal, refuses, Caller, acts, pieces_with, with_pieces, detaches, forks, unborn_from, hands_pieces, attaches_if, Placed, placed, Runner, Result, Ok, Err, by-shmget, pick_by}
 use Rattle.shm_laws.proofs.Placing.{IsPlaced, few-enough, is-placed}
-use Rattle.shm_life.proofs.Asking.{by-shmget, pick_by}
 
 -- SEVEN THINGS
 

@@ -14,7 +14,7 @@ out hidden o = record { reply = o.reply; state = veil hidden o.state }
 
 -- THE MACHINE WITH THOSE BYTES HIDDEN
 
--- by the index, and by how many segments were destroyed there
+-- whether a segment's bytes are hidden, by its index and by how many segments were destroyed there
 abbrev hides : (ℕ → Bool) → ℕ → ℕ → Bool
 hides hidden i d = hidden (identifier i d)
 
@@ -70,8 +70,8 @@ out-by hidden s n call (Some c) clear =
 
 -- whether a place of the process is hidden is whether its piece's segment is
 spot-hidden : (hidden : ℕ → Bool) (s : Machine) (pid : ℕ) (b : Bool) → IsGood s → ((p : Piece) → HasPiece s pid p → hidden p.seg ≡ b) → OwnHidden hidden b s pid
-spot-hidden hidden s pid b fit each a q found =
-    let f = spot-fits s pid a q fit.fits found in
+spot-hidden hidden s pid b good each a q found =
+    let f = spot-fits s pid a q good.fits found in
     let seg : q.seg ≡ f.piece.seg = ap (λ (r : Place). r.seg) f.spot in
     let count : destroyed_at s.table (q.seg % 32768) ≡ q.seg / 32768 =
     ap (λ m. destroyed_at s.table (m % 32768)) seg ∙ ap destroyed_in (stands-at s.table f.piece.seg f.fits.segment f.fits.stands) ∙ ap (λ m. m / 32768) (sym seg) in
@@ -96,10 +96,10 @@ blind-step hidden s other n pid call differ clear =
 
 pub blind-move : (s : Machine) (n : ℕ) (e : Event) (t : Machine) → IsGood s → IsMove s n e t → (hidden : ℕ → Bool) (other : Machine) → HasNone hidden s e.pid → DifferIn hidden s other
     → (after : Machine) × IsMove other n e after × DifferIn hidden t after
-blind-move s n e t fit m hidden other none differ = by m
+blind-move s n e t good m hidden other none differ = by m
   where
     same : out hidden (step s n e.pid e.call) ≡ out hidden (step other n e.pid e.call)
-    same = blind-step hidden s other n e.pid e.call differ (spot-hidden hidden s e.pid false fit none)
+    same = blind-step hidden s other n e.pid e.call differ (spot-hidden hidden s e.pid false good none)
 
     reply : (step other n e.pid e.call).reply ≡ (step s n e.pid e.call).reply
     reply = ap (λ (o : Outcome). o.reply) (sym same)
@@ -141,10 +141,10 @@ record OneTurn (hidden : ℕ → Bool) (s : Machine) (e f : Event) (u v : Machin
 
 one-turn : (hidden : ℕ → Bool) (s other : Machine) (n : ℕ) (e f : Event) (u v : Machine) → IsGood s → DifferIn hidden s other → IsMove s n e u → IsMove other n f v
     → is_failure e.call e.reply ≡ false → is_failure f.call f.reply ≡ false → Asks hidden s e f → OneTurn hidden s e f u v
-one-turn hidden s other n e f u v fit differ m k a b (inl asks) =
+one-turn hidden s other n e f u v good differ m k a b (inl asks) =
     let left = clear_step s n e u a m in
     let right = clear_step other n f v b k in
-    let same = blind-step hidden s other n e.pid e.call differ (spot-hidden hidden s e.pid false fit asks.none) in
+    let same = blind-step hidden s other n e.pid e.call differ (spot-hidden hidden s e.pid false good asks.none) in
     let there : step other n f.pid f.call ≡ step other n e.pid e.call = λ j. step other n (asks.process j) (asks.call j) in
     let both : out hidden (record { reply = f.reply; state = v }) ≡ out hidden (record { reply = e.reply; state = u }) =
     ap (out hidden) (sym right ∙ there) ∙ sym same ∙ ap (out hidden) left in
@@ -152,8 +152,8 @@ one-turn hidden s other n e f u v fit differ m k a b (inl asks) =
       alike = inl (λ j. record { pid = asks.process j; call = asks.call j; reply = (both j).reply });
       differ = sym (ap (λ (o : Outcome). o.state) both);
     }
-one-turn hidden s other n e f u v fit differ m k a b (inr private) =
-    let own = spot-hidden hidden s e.pid true fit private.own in
+one-turn hidden s other n e f u v good differ m k a b (inr private) =
+    let own = spot-hidden hidden s e.pid true good private.own in
     let other-own : OwnHidden hidden true other f.pid = subst (OwnHidden hidden true other) (sym private.process) (other-hidden hidden s other e.pid true differ own) in
     record {
       alike = inr private;
@@ -161,12 +161,12 @@ one-turn hidden s other n e f u v fit differ m k a b (inr private) =
     }
 
 blind-on : (n : ℕ) (s : Machine) (events : List Event) (t : Machine) → IsGood s → IsBlindOn n s events t
-blind-on n s [] t fit hidden other [] after differ legal a b beside = (beside, ap (veil hidden) beside ∙ differ ∙ ap (veil hidden) (sym legal))
-blind-on n s [] t fit hidden other (f ∷ fs) after differ legal a b beside = absurd beside
-blind-on n s (e ∷ es) t fit hidden other [] after differ legal a b beside = absurd beside
-blind-on n s (e ∷ es) t fit hidden other (f ∷ fs) after differ legal a b beside =
-    let one = one-turn hidden s other n e f beside.0 legal.0 fit differ beside.1 legal.1 (first_clear e es a) (first_clear f fs b) beside.2 in
-    let more = blind-on (n + 1) beside.0 es t (good-move s n e beside.0 fit beside.1) hidden legal.0 fs after one.differ legal.2 (rest_clear e es a) (rest_clear f fs b) beside.3 in
+blind-on n s [] t good hidden other [] after differ legal a b beside = (beside, ap (veil hidden) beside ∙ differ ∙ ap (veil hidden) (sym legal))
+blind-on n s [] t good hidden other (f ∷ fs) after differ legal a b beside = absurd beside
+blind-on n s (e ∷ es) t good hidden other [] after differ legal a b beside = absurd beside
+blind-on n s (e ∷ es) t good hidden other (f ∷ fs) after differ legal a b beside =
+    let one = one-turn hidden s other n e f beside.0 legal.0 good differ beside.1 legal.1 (first_clear e es a) (first_clear f fs b) beside.2 in
+    let more = blind-on (n + 1) beside.0 es t (good-move s n e beside.0 good beside.1) hidden legal.0 fs after one.differ legal.2 (rest_clear e es a) (rest_clear f fs b) beside.3 in
     ((beside.0, beside.1, one.alike, more.0), more.1)
 
 -- of every legal history

@@ -1,6 +1,5 @@
 -- Every legal history keeps all laws.
-use Rattle.shm_laws.proofs.Names.{◌≡◌, ◌∙◌, ◌+◌, [], length, refl, List, Event, Machine, Opening, start_of, IsHistory, IsLawful, NamesOneSegment, KeepsNames, NamesAnew, GoesWhenItMust, DestroysWhatIsDue, Removes, KeepsMarks, AreRemoved, NoWayIn, KeepsOut, KeepsCredentials, GoesBack, EachPiece, KeysLeadToOne, FindsByKey, KeepsKeys, HaveTheirPages, KeepsSizes, SpacesAreLaidOut, PiecesAreOfSegments, GivesPieces, CountsPieces}
-use Rattle.shm_laws.specs.Identity.{AreMade}
+use Rattle.shm_laws.proofs.Names.{◌≡◌, ◌∙◌, ◌+◌, [], length, refl, List, Event, Machine, Opening, start_of, IsHistory, IsLawful, NamesOneSegment, KeepsNames, NamesAnew, GoesWhenItMust, DestroysWhatIsDue, Removes, KeepsMarks, AreRemoved, NoWayIn, KeepsOut, KeepsCredentials, GoesBack, EachPiece, KeysLeadToOne, FindsByKey, KeepsKeys, HaveTheirPages, KeepsSizes, SpacesAreLaidOut, PiecesAreOfSegments, GivesPieces, CountsPieces, AreMade}
 use Rattle.shm_laws.proofs.Inducting.{always, each_moment}
 use Rattle.shm_laws.proofs.Holding.{IsGood, good-start, good-kind, good-move, good-at, each_good, kept_good}
 use Rattle.shm_laws.proofs.Naming.{keeps-refl, keeps-trans, keeps-names, names-anew, made-on, made-start}

@@ -1,6 +1,5 @@
 -- A key leads to one segment.
-use Rattle.shm_laws.proofs.Names.{◌≡◌, ◌≢◌, ◌⊎◌, ℕ, pos, Bool, true, false, ◌||◌, Option, Some, None, refl, sym, ap, ◌∙◌, inl, inr, Id, Event, Segment, Machine, find_key, Caller, caller_of, IsMove, IsMarked, HasKey, KeysAreApart, FindsByKey, KeepsKeys}
-use Rattle.shm_life.proofs.Asking.{IsFree}
+use Rattle.shm_laws.proofs.Names.{◌≡◌, ◌≢◌, ◌⊎◌, ℕ, pos, Bool, true, false, ◌||◌, Option, Some, None, refl, sym, ap, ◌∙◌, inl, inr, Id, Event, Segment, Machine, find_key, Caller, caller_of, IsMove, IsMarked, HasKey, KeysAreApart, FindsByKey, KeepsKeys, IsFree}
 use Rattle.shm_laws.proofs.Stepping.{made_by, Moved, removed}
 use Rattle.shm_laws.proofs.Fates.{IsMachineSound, names, key_after}
 use Rattle.shm_laws.proofs.Removing.{key-stays}

@@ -19,7 +19,6 @@ pub mod Piecing
 pub mod Inducting
 pub mod Callers
 pub mod Parting
-pub mod Protecting
 pub mod Placing
 pub mod Handing
 pub mod Accessing

@@ -1,7 +1,5 @@
 -- No call changes the limits of a machine.
-use Rattle.shm_laws.proofs.Names.{Errno, ◌≡◌, ℕ, refl, common_steps, arith, AtFlags, ProcessCall, Shmget, Shmat, Event, Machine, Outcome, Caller, acts, IsMove, attaches_if, Placed, placed}
-use Rattle.std.specs.Prelude.{Result, Ok, Err}
-use Rattle.shm_life.proofs.Asking.{by-shmget}
+use Rattle.shm_laws.proofs.Names.{Errno, ◌≡◌, ℕ, refl, common_steps, arith, AtFlags, ProcessCall, Shmget, Shmat, Event, Machine, Outcome, Caller, acts, IsMove, attaches_if, Placed, placed, Result, Ok, Err, by-shmget}
 use Rattle.shm_laws.proofs.Refusing.{by-move}
 
 module _ (s : Machine) (n : ℕ) (c : Caller) where

@@ -31,7 +31,7 @@ marked-before s e t sound k id mark = by (came-from s t e sound k id mark.segmen
         either true h = inr (names-removed e id h)
         either false h = inl (record { segment = old.segment; stands = old.stood; dest = ap (λ b. b || old.segment.dest) (sym h) ∙ sym old.dest ∙ mark.dest })
 
--- at all times
+-- kept by each move
 pub removed-on : (o : Opening) (before : List Event) (s : Machine) (e : Event) (t : Machine) → IsHistory o before s → IsMachineSound s → Moved s e t → AreRemoved o before s → AreRemoved o (before ++ e ∷ []) t
 removed-on o before s e t h sound k marks id mark = from (marked-before s e t sound k id mark)
   where

@@ -1,16 +1,15 @@
 -- An identifier names one segment.
-use Rattle.shm_laws.proofs.Names.{◌≡◌, ◌⊎◌, ℕ, ◌/◌, ◌%◌, ◌<◌, ◌||◌, pos, false, List, [], ◌∷◌, ◌++◌, replicate, Option, Some, None, slice_get, refl, sym, ap, subst, ◌∙◌, inl, inr, arith, common_steps, Id, Event, Segment, Entry, Runner, Machine, Opening, start_of, Invalid, identifier, destroyed_in, look, swept_at, Caller, caller_of, IsHistory, segment_in, Stands, IsGone, Since, Began, Lasted, IsSame, KeepsNames, NamesAnew, IsMadeBy, StandsAs, Makes}
+use Rattle.shm_laws.proofs.Names.{◌≡◌, ◌⊎◌, ℕ, ◌/◌, ◌%◌, ◌<◌, ◌||◌, pos, false, List, [], ◌∷◌, ◌++◌, replicate, Option, Some, None, slice_get, refl, sym, ap, subst, ◌∙◌, inl, inr, arith, common_steps, Id, Event, Segment, Entry, Runner, Machine, Opening, start_of, Invalid, identifier, destroyed_in, look, swept_at, Caller, caller_of, IsHistory, segment_in, Stands, IsGone, Since, Began, Lasted, IsSame, KeepsNames, NamesAnew, IsMadeBy, StandsAs, Makes, caller-at}
 use Rattle.shm_laws.specs.Identity.{AreMade}
 use Rattle.shm_laws.proofs.Fresh.{IsEmpty, never}
 use Rattle.shm_laws.proofs.Turning.{same_refl, same_trans}
-use Rattle.shm_laws.proofs.Callers.{caller-at}
 use Rattle.shm_laws.proofs.Inducting.{since-map}
 use Rattle.shm_laws.proofs.Looks.{holds, bare_entry, stands-at, at-stands, at-gone, entry-gone}
 use Rattle.shm_laws.proofs.Stepping.{overlay, made_by, Moved, removed}
 use Rattle.shm_laws.proofs.Fates.{IsMachineSound, IsNew, Stays, names, key_after, stays, comes, holds-empty}
 use Rattle.shm_laws.proofs.Removing.{stands-or-gone}
 
--- ONE MOVE
+-- WHERE A SEGMENT COMES FROM IN ONE MOVE
 
 -- a segment that existed, whose bytes became the present ones
 pub record Stood (s : Machine) (e : Event) (id : ℕ) (y : Segment) : Type 0 where
@@ -120,7 +119,7 @@ keeps-refl s = record { stands = λ id x h. inl (x, h, same_refl x); gone = λ i
 pub keeps-trans : (s u t : Machine) → KeepsNames s u → KeepsNames u t → KeepsNames s t
 keeps-trans s u t a b = grind (arith, common_steps)
 
--- ONE MOVE FOR ALL SEGMENTS
+-- WHAT ONE MOVE DOES TO THE NAMES OF ALL SEGMENTS
 
 pub keeps-names : (s : Machine) (e : Event) (t : Machine) → IsMachineSound s → Moved s e t → KeepsNames s t
 keeps-names s e t sound k = record { stands = λ id x stood. stands-or-gone s t e sound k id x stood; gone = λ id h. gone-on s t e sound k id h }
@@ -136,7 +135,7 @@ made-now s e id y m = by (caller_of s e.pid) refl m.made
     by : (o : Option Caller) → caller_of s e.pid ≡ o → made_by s.table o e.call y → IsMadeBy s e id y
     by None is none = absurd none
     by (Some c) is made =
-        let at = caller-at 0 e.pid s.runners c is in
+        let at = caller-at e.pid s.runners c is in
         record {
           key = y.key;
           mode = made.mode;
@@ -154,7 +153,7 @@ made-now s e id y m = by (caller_of s e.pid) refl m.made
 since-same : (o : Opening) (before : List Event) (id : ℕ) (x y : Segment) → IsSame x y → Since o (λ u e. IsMadeBy u e id x) (λ u e. StandsAs u id x) before → Since o (λ u e. IsMadeBy u e id y) (λ u e. StandsAs u id y) before
 since-same o before id x y same since = grind (arith, common_steps, since-map, same_trans)
 
--- at all times
+-- kept by each move
 pub made-on : (o : Opening) (before : List Event) (s : Machine) (e : Event) (t : Machine) → IsHistory o before s → IsMachineSound s → Moved s e t → AreMade o before s → AreMade o (before ++ e ∷ []) t
 unfolding AreMade
 made-on o before s e t h sound k made id y stands = from (came-from s t e sound k id y stands)

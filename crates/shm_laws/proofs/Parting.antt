@@ -1,28 +1,15 @@
--- Parts of pieces, and the pieces that a cut and an insertion leave.
-use Rattle.shm_laws.proofs.Names.{◌≡◌, ℕ, ◌%◌, true, List, [], ◌∷◌, refl, arith, common_steps, All, All-nil, All-append, flat_map-cons, Piece, meets, part_below, part_above, parts, cut, inserted, all-cons, all-head, all-tail, IsPart}
+-- Parts of pieces, as the law of permission says it of them.
+use Rattle.shm_laws.proofs.Names.{ℕ, ◌≡◌, ◌%◌, All, All-weaker, Piece, parts, IsPart, ShareTheirPages, IsAligned, IsOfAttach, IsPartOf}
+use Rattle.shm_attach.proofs.Turned as pieces
 
-abbrev pub IsAligned : Piece → Type 0
-IsAligned p = p.base % 4096 ≡ 0
+pub shares : (p q : Piece) → IsOfAttach p q → ShareTheirPages p q
+shares p q h = record { seg = h.seg; pages = h.pages }
+
+part : (p q : Piece) → IsPartOf p q → IsPart p q
+part p q h = record { seg = h.attach.seg; writable = h.writable; may_write = h.may_write; pages = h.attach.pages; from = h.from; to = h.to }
 
 pub part_refl : (p : Piece) → IsPart p p
-part_refl p = record { seg = refl; writable = refl; may_write = refl; pages = refl; from = omega arith; to = omega arith }
+part_refl p = part p p (pieces.part_refl p)
 
-module _ (from to : ℕ) (page_from : from % 4096 ≡ 0) (page_to : to % 4096 ≡ 0) where
-  below-parts : (p : Piece) → IsAligned p → meets from to p ≡ true → All (λ q. IsPart q p) (part_below from p)
-  below-parts p page m = grind (arith, common_steps)
-
-  above-parts : (p : Piece) → IsAligned p → meets from to p ≡ true → All (λ q. IsPart q p) (part_above to p)
-  above-parts p page m = grind (arith, common_steps)
-
-  pub all-parts : (p : Piece) → IsAligned p → All (λ q. IsPart q p) (parts from to p)
-  all-parts p page = grind (arith, below-parts, above-parts, all-cons, part_refl)
-
-pub all-cut : (P Q : Piece → Type 0) (from to : ℕ) → ((p : Piece) → P p → All Q (parts from to p)) → (ps : List Piece) → All P ps → All Q (cut from to ps)
-all-cut P Q from to each [] h = All-nil Q
-all-cut P Q from to each (p ∷ ps) h =
-    rw (flat_map-cons (parts from to) p ps)
-    (All-append Q (parts from to p) (cut from to ps) (each p (all-head P p ps h)) (all-cut P Q from to each ps (all-tail P p ps h)))
-
-pub all-inserted : (P : Piece → Type 0) (p : Piece) (ps : List Piece) → P p → All P ps → All P (inserted p ps)
-all-inserted P p [] h hs = all-cons P p [] h hs
-all-inserted P p (q ∷ qs) h hs = grind (arith, common_steps, all-cons, all-head, all-tail, all-inserted P p qs h (all-tail P q qs hs))
+pub all-parts : (from to : ℕ) → from % 4096 ≡ 0 → to % 4096 ≡ 0 → (p : Piece) → IsAligned p → All (λ q. IsPart q p) (parts from to p)
+all-parts from to page-from page-to p page = All-weaker (λ q. IsPartOf q p) (λ q. IsPart q p) (λ q h. part q p h) (parts from to p) (pieces.all-parts from to page-from page-to p page)

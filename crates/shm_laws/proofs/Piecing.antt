@@ -1,8 +1,6 @@
 -- A segment with a piece exists.
-use Rattle.shm_laws.proofs.Names.{rounded, ◌≡◌, ◌⊎◌, ℕ, suc, zero, ◌+◌, ◌*◌, ◌≤◌, List, [], ◌∷◌, map, Some, slice_set, refl, ap, subst, inl, inr, arith, common_steps, cases_eq, sum_by-cons, ProcessCall, Event, Process, Segment, Piece, Runner, Machine, Opening, start_of, runner_at_start, cut, pieces_of, attach_count, Caller, Outcome, caller_of, acts, pieces_with, IsMove, one_more, pieces_of-inserted, pieces_of-cut_cons, pieces_of-filter, Stands, IsDue, PiecesNameWhatStands, piece_for, pieces_beside}
-use Rattle.shm_laws.proofs.Protecting.{protected-none}
+use Rattle.shm_laws.proofs.Names.{rounded, ◌≡◌, ◌⊎◌, ℕ, suc, zero, ◌+◌, ◌*◌, ◌≤◌, List, [], ◌∷◌, map, Some, slice_set, refl, ap, subst, inl, inr, arith, common_steps, cases_eq, sum_by-cons, ProcessCall, Event, Process, Segment, Piece, Runner, Machine, Opening, start_of, runner_at_start, cut, pieces_of, attach_count, Caller, Outcome, caller_of, acts, pieces_with, IsMove, one_more, pieces_of-inserted, pieces_of-cut_cons, pieces_of-filter, Stands, IsDue, PiecesNameWhatStands, piece_for, pieces_beside, protected-none, caller-at, had-count}
 use Rattle.shm_laws.proofs.Refusing.{by-move}
-use Rattle.shm_laws.proofs.Callers.{caller-at, runner-count}
 use Rattle.shm_laws.proofs.Handing.{Attaches, Hands, hands-acts, by-hands}
 use Rattle.shm_laws.proofs.Stepping.{Moved, removed}
 use Rattle.shm_laws.proofs.Fates.{IsMachineSound}
@@ -17,7 +15,7 @@ count-set (x ∷ xs) zero r id = grind (arith, common_steps, sum_by-cons)
 count-set (x ∷ xs) (suc i) r id = grind (arith, common_steps, sum_by-cons, count-set xs i r id)
 
 caller-count : (s : Machine) (pid : ℕ) (c : Caller) (id : ℕ) → caller_of s pid ≡ Some c → pieces_of id c.pieces ≤ attach_count s.runners id
-caller-count s pid c id found = let at = caller-at 0 pid s.runners c found in runner-count s.runners at.place _ id at.there
+caller-count s pid c id found = had-count s.runners c.index _ id (caller-at pid s.runners c found).there
 
 -- a cut makes no first piece
 cut-none : (id from to : ℕ) (ps : List Piece) → pieces_of id ps ≡ 0 → pieces_of id (cut from to ps) ≡ 0

@@ -1,14 +1,8 @@
 -- What it means that shmat has a place.
-use Rattle.shm_laws.proofs.Names.{◌≡◌, ℕ, ◌+◌, ◌-◌, ◌*◌, ◌%◌, ◌≤◌, ◌==◌, ℤ, pos, negsuc, Bool, true, false, not, nat_lt, if◌then◌else◌, List, [], ◌∷◌, length, map, Option, Some, None, refl, sym, ap, subst, ◌∙◌, arith, common_steps, All, not-false, none-some, Errno, Eacces, Einval, Enomem, AtFlags, end_of, grants, Segment, Piece, Machine, pages_in, Look, Found, Removed, Invalid, identifier, destroyed_at, look, inside, occupied, first_chosen, lowest_address, end_address, Caller, at_wish, is_remap, is_taken, is_full, is_misplaced, pieces_errno, pieces_beside, pieces_with, piece_for, Placed, placed, placed_at, placed_found, base_for, chosen_base, fixed_base, Stands, length-inserted}
-use Rattle.std.specs.Prelude.{Result, Ok, Err, min, ◌++◌}
+use Rattle.shm_laws.proofs.Names.{◌≡◌, ℕ, ◌+◌, ◌-◌, ◌*◌, ◌%◌, ◌≤◌, ◌==◌, ℤ, pos, negsuc, Bool, true, false, not, nat_lt, if◌then◌else◌, List, [], ◌∷◌, length, map, Option, Some, None, refl, sym, ap, subst, ◌∙◌, arith, common_steps, All, not-false, none-some, Errno, Eacces, Einval, Enomem, AtFlags, end_of, grants, Segment, Piece, Machine, pages_in, Look, Found, Removed, Invalid, identifier, destroyed_at, look, inside, occupied, first_chosen, lowest_address, end_address, Caller, at_wish, is_remap, is_taken, is_full, is_misplaced, pieces_errno, pieces_beside, pieces_with, piece_for, Placed, placed, placed_at, placed_found, base_for, chosen_base, fixed_base, Stands, length-inserted, inl, inr, cases_lt, choose_beside, is_free_gap, least_where, lesser, host_ranges, outside_errno, IsAligned, Result, Ok, Err, min, ◌++◌}
 use Rattle.std.specs.Option.{ok_or}
-use Rattle.std.proofs.Common.{inl, inr}
-use Rattle.std.proofs.lemmas.Bool.{cases_lt}
-use Rattle.shm_base.specs.Space.{choose_beside, is_free_gap, least_where, lesser}
 use Rattle.shm_base.specs.declared.guest.HostRange.{HostRange}
-use Rattle.shm_base.specs.Step.{host_ranges, outside_errno}
 use Rattle.shm_laws.proofs.Looks.{found-own}
-use Rattle.shm_laws.proofs.Parting.{IsAligned}
 
 -- the base is within the addresses, at a page, and free unless a remap asks for it
 pub record IsBase (ps : List Piece) (flags : AtFlags) (pages base : ℕ) : Type 0 where

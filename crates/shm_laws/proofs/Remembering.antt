@@ -102,7 +102,7 @@ module _ (s : Machine) (n : ℕ) (e : Event) (t : Machine) (fits : AllFit s) (m 
 -- AT ALL TIMES
 
 pub record Recollects (o : Opening) (before : List Event) (s : Machine) : Type 0 where
-  pub fit : IsGood s
+  pub good : IsGood s
   pub bytes : Remembers o before s
 
 remembers-on : (o : Opening) (before : List Event) (s : Machine) (e : Event) (t : Machine) → IsHistory o before s → IsGood s → Moved s e t → Remembers o before s → IsMove s (length before + 1) e t → Remembers o (before ++ e ∷ []) t
@@ -123,7 +123,7 @@ remembers-on o before s e t h good k now m id at b y stands is = from (came-from
 
 recollects : (o : Opening) (before : List Event) (s : Machine) → IsHistory o before s → Recollects o before s
 recollects o before s h =
-    record { fit = good-at o before s h; bytes = kept_good o (Remembers o) (remembers-on o) (λ id at b x stands is. absurd (cc stands)) before s h }
+    record { good = good-at o before s h; bytes = kept_good o (Remembers o) (remembers-on o) (λ id at b x stands is. absurd (cc stands)) before s h }
 
 -- WHAT IS ANSWERED
 
@@ -143,7 +143,7 @@ recall-places o before s pid a len qs now found =
         let long = length-map qs (byte_at s.table) in
         let count = places-length (pieces_of_caller (caller_of s pid)) a len qs found in
         let spot = place-of (pieces_of_caller (caller_of s pid)) a len qs found k (omega (arith, within, long, count)) in
-        let f = spot-fits s pid (a + k) spot.spot now.fit.fits spot.is in
+        let f = spot-fits s pid (a + k) spot.spot now.good.fits spot.is in
         let p = f.piece in
         let at = 4096 * p.first_page + ((a + k) - p.base) in
         let read : Some (byte_at s.table spot.spot) ≡ Some b = ap (option_map (byte_at s.table)) (sym spot.at) ∙ sym (slice_get-map (byte_at s.table) qs k) ∙ is in

@@ -1,10 +1,5 @@
 -- The four kinds of step on the segments: still, a sweep after a detach, a creation, a removal.
-use Rattle.shm_laws.proofs.Names.{pieces_of, Cred, Mprotect, Munmap, Setuid, cut, mprotect, protects_pieces, rest_is_attached, unmapped_to, unmaps, with_cred, ◌≡◌, ◌⊎◌, ℕ, ◌+◌, ◌*◌, ◌%◌, ◌≤◌, ◌==◌, ℤ, pos, negsuc, Bool, false, not, nat_lt, List, [], ◌∷◌, length, replicate, get_or, Option, Some, None, slice_get, slice_set, refl, sym, ap, subst, ◌∙◌, inl, inr, arith, common_steps, get-set_other, slice_get-get_or, GetFlags, AtFlags, ProcessCall, Shmget, Shmat, Shmdt, Stat, Set, Rmid, Lock, Unlock, Fork, Exec, Exit, Swapoff, Reply, Id, Done, Addr, Event, owns, Place, places, stored, Segment, Entry, Piece, Unborn, Live, Ended, Runner, Machine, pages_of, Look, Found, Removed, Invalid, identifier, destroyed_at, free_index, with_segment, look, cut_segments, origin_of, attach_count, change, attached, marked, detach_all, swept, Outcome, gives, segments_of, Caller, caller_of, acts, new_segment, shmget, pieces_with, with_pieces, detaches, forks, unborn_from, stat, controls, sets, removes, locks, unlocks, takes_away, swapoff, first_runner, child_at, life_in, IsSame, Put, put, pieces_of_caller, Errno, rests, attach_all, inherited, fork_marks, locks_as, unlocked, is_no_owner, attaches_if, Placed, placed, lock_refusal, locks_unless, Reach, reach}
-use Rattle.std.specs.Prelude.{Result, Ok, Err}
-use Rattle.std.proofs.lemmas.Bool.{cond_both}
-use Rattle.shm_life.proofs.Asking.{IsFree, by-shmget, pick}
-use Rattle.shm_laws.proofs.Callers.{kept-set}
-use Rattle.shm_laws.proofs.Protecting.{protected-keeps}
+use Rattle.shm_laws.proofs.Names.{pieces_of, Cred, Mprotect, Munmap, Setuid, cut, mprotect, protects_pieces, rest_is_attached, unmapped_to, unmaps, with_cred, ◌≡◌, ◌⊎◌, ℕ, ◌+◌, ◌*◌, ◌%◌, ◌≤◌, ◌==◌, ℤ, pos, negsuc, Bool, false, not, nat_lt, List, [], ◌∷◌, length, replicate, get_or, Option, Some, None, slice_get, slice_set, refl, sym, ap, subst, ◌∙◌, inl, inr, arith, common_steps, get-set_other, slice_get-get_or, GetFlags, AtFlags, ProcessCall, Shmget, Shmat, Shmdt, Stat, Set, Rmid, Lock, Unlock, Fork, Exec, Exit, Swapoff, Reply, Id, Done, Addr, Event, owns, Place, places, stored, Segment, Entry, Piece, Unborn, Live, Ended, Runner, Machine, pages_of, Look, Found, Removed, Invalid, identifier, destroyed_at, free_index, with_segment, look, cut_segments, origin_of, attach_count, change, attached, marked, detach_all, swept, Outcome, gives, segments_of, Caller, caller_of, acts, new_segment, shmget, pieces_with, with_pieces, detaches, forks, unborn_from, stat, controls, sets, removes, locks, unlocks, takes_away, swapoff, first_runner, child_at, life_in, IsSame, Put, put, pieces_of_caller, Errno, rests, attach_all, inherited, fork_marks, locks_as, unlocked, is_no_owner, attaches_if, Placed, placed, lock_refusal, locks_unless, Reach, reach, Result, Ok, Err, cond_both, IsFree, by-shmget, pick, count-named, protected-keeps}
 use Rattle.shm_laws.proofs.Accessing.{Changes, accesses}
 use Rattle.shm_laws.proofs.Turning.{IsAlike, Turned, unchanged, puts_in, turned-refl, turned-trans, turned-change, turned-attach, turned-detach, turned-stored, set-got}
 use Rattle.shm_laws.proofs.Looks.{entry-found}
@@ -180,6 +175,12 @@ module _ (like : Segment → Type 0) (s : Machine) (n : ℕ) (c : Caller) where
   kind-detaches addr None = still like s _
   kind-detaches addr (Some p) = sweeps like s _ _ _ (turned-detach n c.pid (p.seg ∷ []) s.table) refl (living c _ s.runners)
 
+  -- one process changes, and keeps a piece of each segment
+  one-set : (reply : Reply) (table : List Entry) (i : ℕ) (old new : Runner) → slice_get s.runners i ≡ Some old → ((id : ℕ) → 1 ≤ pieces_of id old.pieces → 1 ≤ pieces_of id new.pieces) → (new.life ≡ Unborn → ⊥)
+      → ((j : ℕ) → Turned unchanged s.table table j) → Kind idle like s None reply (record s { table = table; runners = slice_set s.runners i new })
+  one-set reply table i old new there keeps born turned =
+      inl (refl, inl (record { turned = turned; kept = count-named s.runners i new old there keeps; bare = λ h. bare-set s.runners i new h born }))
+
   turned-inherited : (i : ℕ) → Turned unchanged s.table (inherited s n c) i
   turned-inherited i = cond_both (fork_marks s.limits.rules) _ _ (λ t. Turned unchanged s.table t i) (λ h. turned-attach n c.pid (segments_of c) s.table i) (λ h. turned-refl s.table i)
 
@@ -187,15 +188,8 @@ module _ (like : Segment → Type 0) (s : Machine) (n : ℕ) (c : Caller) where
   kind-forks child None bare is = still like s _
   kind-forks child (Some i) bare is =
       let old = unborn-bare child i s.runners is bare in
-      let new : Runner = record { pid = child; life = Live c.cred; pieces = c.pieces } in
-      inl (
-        refl,
-        inl (record {
-          turned = turned-inherited;
-          kept = kept-set s.runners i old.0 new old.1 (λ j some. absurd (let none = ap (pieces_of j) old.2 in omega (arith, none, some)));
-          bare = λ h. bare-set s.runners i new h (λ (e : Live c.cred ≡ Unborn). cc e);
-        }),
-      )
+      one-set _ _ i old.0 (record { pid = child; life = Live c.cred; pieces = c.pieces }) old.1 (λ j some. absurd (let none = ap (pieces_of j) old.2 in omega (arith, none, some)))
+      (λ (e : Live c.cred ≡ Unborn). cc e) turned-inherited
 
   kind-stat : (l : Look) → Plain s (stat s c l)
   kind-stat l = grind (arith, common_steps, still, pick)
@@ -258,27 +252,12 @@ module _ (like : Segment → Type 0) (s : Machine) (n : ℕ) (c : Caller) where
   kind-protects : There → (w : Bool) (addr len : ℕ) → Plain s (mprotect s n c addr len w)
   kind-protects there w addr len =
       let x = protects_pieces s.limits.most_pieces w addr len c.pieces in
-      let new : Runner = record { pid = c.pid; life = Live c.cred; pieces = x.pieces } in
-      inl (
-        refl,
-        inl (record {
-          turned = λ i. cond_both (rest_is_attached s.limits.rules) _ _ (λ t. Turned unchanged s.table t i) (λ h. turned-attach n c.pid x.split s.table i) (λ h. turned-refl s.table i);
-          kept = kept-set s.runners c.index _ new there (λ id some. protected-keeps s.limits.most_pieces w addr len id c.pieces some);
-          bare = living c x.pieces s.runners;
-        }),
-      )
+      one-set _ _ c.index _ (record { pid = c.pid; life = Live c.cred; pieces = x.pieces }) there (λ id some. protected-keeps s.limits.most_pieces w addr len id c.pieces some) (λ (e : Live c.cred ≡ Unborn). cc e)
+      (λ i. cond_both (rest_is_attached s.limits.rules) _ _ (λ t. Turned unchanged s.table t i) (λ h. turned-attach n c.pid x.split s.table i) (λ h. turned-refl s.table i))
 
   kind-setuid : There → (cred : Cred) → Plain s (gives (record s { runners = with_cred s.runners c cred }) Done)
   kind-setuid there cred =
-      let new : Runner = record { pid = c.pid; life = Live cred; pieces = c.pieces } in
-      inl (
-        refl,
-        inl (record {
-          turned = turned-refl s.table;
-          kept = kept-set s.runners c.index _ new there (λ id some. some);
-          bare = λ h. bare-set s.runners c.index new h (λ (e : Live cred ≡ Unborn). cc e);
-        }),
-      )
+      one-set _ _ c.index _ (record { pid = c.pid; life = Live cred; pieces = c.pieces }) there (λ id some. some) (λ (e : Live cred ≡ Unborn). cc e) (turned-refl s.table)
 
   -- a removal
   kind-rmid : (id : ℕ) (l : Look) → look s.table (pos id) ≡ l → let o = controls s c (removes s) l in Kind idle like s (removed_by o.reply (pos id)) o.reply o.state

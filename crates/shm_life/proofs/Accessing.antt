@@ -1,36 +1,11 @@
 -- The replies to an access that succeeded, and to one that was refused or at which a pager failed.
-use Rattle.shm_base.specs.declared.guest.HostRange.{HostRange}
-use Rattle.shm_life.proofs.Names.{All, InPage, SegmentsView, eq-eqb, ◌≤◌, ◌≡◌, ◌∙◌, ℕ, ◌+◌, ◌%◌, Bool, true, false, if◌then◌else◌, List, length, Some, None, refl, sym, ap, arith, common_steps, OnOk, OnErr, Entry, Span, Place, Outcome, gives, refuses, Bytes, Done, Machine, Piece, wanted_in, load-wanted, store-wanted, loaded, span_places, SameTable, same-refl, stored-same, Bounds, Runner, StoreView, sizes}
+use Rattle.shm_life.proofs.Names.{All, InPage, SegmentsView, eq-eqb, ◌≤◌, ◌≡◌, ◌∙◌, ℕ, ◌+◌, ◌%◌, Bool, true, false, if◌then◌else◌, List, length, Some, None, refl, sym, ap, arith, common_steps, OnOk, OnErr, Entry, Span, Place, Outcome, gives, refuses, Bytes, Done, Machine, Piece, wanted_in, load-wanted, store-wanted, loaded, span_places, SameTable, same-refl, stored-same, Bounds, Runner, StoreView, sizes, HostRange, w64, from_le_bytes, to_le_bytes, places, same_bytes, stored, writable_places, Caller, caller_of, ProcessCall, acts, compare_exchange, exchange, load, step_by, store, xadd, is_failure, is_refusal, Reply, Number, Refused, Errno, Esrch, Sigbus, Sigsegv, IsCaller, caller_seen, unmarked, Called, are_asked, loaded-unmarked, stored-unmarked, answer_of, Act, Nothing, Put, PutIfEqual, Add, Touched, table_with, Does, DoesAt, DoesBy, LeavesOrFails, call_of, reply_of, Answered, AnsweredTo, MachineView, is_lock, replied, reply_in, Paging, comparing, page_spans, paging_by, touching, Rests, Touches, ◌==◌, ◌^◌, is_some, map, Option, Result, Ok, Err, IfOk, IfErr, option_map}
 use Rattle.std.specs.Borrow.{Bor}
-use Rattle.std.specs.Int.{w64, from_le_bytes, to_le_bytes}
-use Rattle.std.specs.Prelude.{◌==◌, ◌^◌, is_some, map, Option, Result, Ok, Err, IfOk, IfErr, option_map}
 use Rattle.std.specs.Result.{result_or}
 use Rattle.std.proofs.lemmas.Result.{IfOk-weaker}
-use Rattle.shm_base.specs.Access.{places, same_bytes, stored, writable_places}
-use Rattle.shm_base.specs.Callers.{Caller, caller_of}
-use Rattle.shm_base.specs.Calls.{ProcessCall}
-use Rattle.shm_base.specs.Step.{acts, compare_exchange, exchange, load, step_by, store, xadd}
-use Rattle.shm_base.specs.History.{is_failure, is_refusal}
 use Rattle.shm_base.specs.declared.call.Call.TheVariants as call
-use Rattle.shm_base.specs.declared.call.Reply.{Reply}
-use Rattle.shm_base.specs.declared.call.Reply.TheVariants.{Number, Refused}
-use Rattle.shm_base.specs.declared.errno.Errno.{Errno}
-use Rattle.shm_base.specs.declared.errno.Errno.TheVariants.{Esrch, Sigbus, Sigsegv}
-use Rattle.shm_attach.specs.Spaces.{IsCaller, caller_seen}
-use Rattle.shm_attach.specs.Spans.{unmarked}
-use Rattle.shm_attach.specs.declared.process.Caller.{Caller as Called}
-use Rattle.shm_attach.proofs.FlatSteps.{are_asked, loaded-unmarked, stored-unmarked}
-use Rattle.shm_fault.specs.Access.{answer_of}
 use Rattle.shm_fault.specs.Acting.{FitsRoom, bytes_in, place_after, put_by, size_of, writes}
-use Rattle.shm_fault.specs.declared.act.Act.{Act}
-use Rattle.shm_fault.specs.declared.act.Act.TheVariants.{Nothing, Put, PutIfEqual, Add}
-use Rattle.shm_fault.specs.declared.touched.Touched.{Touched}
-use Rattle.shm_segments.specs.Table.{table_with}
-use Rattle.shm_life.specs.Accessing.{Does, DoesAt, DoesBy, LeavesOrFails, call_of, reply_of}
 use Rattle.shm_segments.specs.Acted.{Acted}
-use Rattle.shm_life.specs.MachineView.{Answered, AnsweredTo, MachineView, is_lock, replied, reply_in}
-use Rattle.shm_life.specs.Paging.{Paging, comparing, page_spans, paging_by, touching}
-use Rattle.shm_life.specs.Paging.Paging.{Rests, Touches}
 use Rattle.shm_life.proofs.Touching.{comes-in, comes-up-to, have-pages}
 use Rattle.shm_life.proofs.Running.{answered_as, failing, granted}
 

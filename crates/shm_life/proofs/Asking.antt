@@ -1,18 +1,5 @@
--- What holds of each answer to shmget.
-use Rattle.std.proofs.Common.{◌≡◌, ◌≢◌, ◌⊎◌, ◌≤◌, ◌+◌, ◌==◌, ℕ, Bool, true, false, not, nat_le, nat_lt, pos, List, Option, Some, None, if◌then◌else◌, inl, inr, refl, sym, ap, subst, arith}
-use Rattle.std.proofs.lemmas.Bool.{not-false}
-use Rattle.std.proofs.lemmas.Grind.{common_steps}
-use Rattle.shm_base.specs.Bounds.{within}
-use Rattle.shm_base.specs.Callers.{Caller, Outcome, gives, refuses}
-use Rattle.shm_base.specs.Identifier.{Look, Found, Removed, Invalid, destroyed_at, find_key, free_index, identifier, with_segment}
-use Rattle.shm_base.specs.Permission.{grants, wish_of}
-use Rattle.shm_base.specs.Segments.{reserved, segment_count, slots}
-use Rattle.shm_base.specs.State.{Entry, Machine, Segment, pages_of}
-use Rattle.shm_base.specs.Step.{creates, creates_at, creates_small, gets, huge_errno, new_segment, shmget, wants_creation, wants_no_other}
-use Rattle.shm_base.specs.declared.call.Reply.TheVariants.{Id}
-use Rattle.shm_base.specs.declared.errno.Errno.{Errno}
-use Rattle.shm_base.specs.declared.errno.Errno.TheVariants.{Eacces, Eexist, Einval, Enoent, Enomem, Enospc, Esrch}
-use Rattle.shm_base.specs.declared.flags.GetFlags.{GetFlags}
+-- What holds of each answer to shmget. Also how a fact follows from both branches of a test (`pick`, `pick_by`), and `is-zero`.
+use Rattle.shm_life.proofs.Names.{◌≡◌, ◌≢◌, ◌⊎◌, ◌≤◌, ◌+◌, ◌==◌, ℕ, Bool, true, false, not, nat_le, nat_lt, pos, List, Option, Some, None, if◌then◌else◌, inl, inr, refl, sym, ap, subst, arith, not-false, common_steps, within, Caller, Outcome, gives, refuses, Look, Found, Removed, Invalid, destroyed_at, find_key, free_index, identifier, with_segment, grants, wish_of, reserved, segment_count, slots, Entry, Machine, Segment, pages_of, creates, creates_at, creates_small, gets, huge_errno, new_segment, shmget, wants_creation, wants_no_other, Id, Errno, Eacces, Eexist, Einval, Enoent, Enomem, Enospc, Esrch, GetFlags}
 
 pub pick : (P : Outcome → Type 0) (b : Bool) (o p : Outcome) → P o → P p → P (if b then o else p)
 pick P true o p h k = h
@@ -38,7 +25,7 @@ within-low size most h = grind (arith, common_steps)
 huge-other : (s : Machine) (c : Caller) (flags : GetFlags) → huge_errno s c flags ≢ Some Esrch
 huge-other s c flags is = grind (arith, common_steps)
 
--- what holds of each refusal, of the segment that has the key, and of each that is made
+-- what holds of each refusal, of the segment that has the key, and of each new segment
 module _ (s : Machine) (n : ℕ) (c : Caller) (size mode : ℕ) (P : ℕ → Outcome → Type 0)
     (refused : (key : ℕ) (e : Errno) → e ≢ Esrch → P key (refuses s e))
     (got : (key i : ℕ) (x : Segment) → key ≢ 0 → find_key s.table key ≡ Found i x → grants c.cred x.perm (wish_of s.limits.rules mode) ≡ true → P key (gives s (Id (pos (identifier i (destroyed_at s.table i))))))

@@ -1,14 +1,6 @@
 -- Where shmat attaches a segment that it found.
-use Rattle.std.specs.Prelude.{List, Option}
 use Rattle.std.specs.Option.{ok_or}
-use Rattle.shm_base.specs.State.{Piece, Segment, pages_in}
-use Rattle.shm_base.specs.Space.{choose_beside, ranges_of}
-use Rattle.shm_base.specs.declared.errno.Errno.{Errno}
-use Rattle.shm_base.specs.declared.errno.Errno.TheVariants.{Enomem}
-use Rattle.shm_life.proofs.Names.{nat_tests, ◌≡◌, ℕ, ℤ, ◌+◌, ◌<◌, ◌≤◌, true, false, length, refl, sym, ap, ◌∙◌, subst, arith, lt-ltb, le-ltb, segment_seen, AtFlags, Machine, pages_of, look, grants, at_wish, OnErr, IsFound, look_of, is_misplaced, if_few, base_for, pieces_beside, Placed, placed, placed_at}
-use Rattle.std.proofs.Common.{Result, Ok, Err}
-use Rattle.shm_base.specs.Rules.{pieces_errno}
-use Rattle.shm_base.specs.Callers.{Caller}
+use Rattle.shm_life.proofs.Names.{nat_tests, ◌≡◌, ℕ, ℤ, ◌+◌, ◌<◌, ◌≤◌, true, false, length, refl, sym, ap, ◌∙◌, subst, arith, lt-ltb, le-ltb, segment_seen, AtFlags, Machine, pages_of, look, grants, at_wish, OnErr, IsFound, look_of, is_misplaced, if_few, base_for, pieces_beside, Placed, placed, placed_at, Piece, Segment, pages_in, choose_beside, ranges_of, Errno, Enomem, pieces_errno, Caller, List, Option, Result, Ok, Err}
 use Rattle.shm_segments.specs.declared.head.Found.{Found as Live}
 
 -- after the first tests, the base decides

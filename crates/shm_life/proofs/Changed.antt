@@ -1,22 +1,10 @@
 -- What is kept where a segment is locked, marked or written, and where a process forks.
-use Rattle.shm_life.proofs.Names.{OrphansAmong, ◌≡◌, ℕ, ◌+◌, ◌/◌, ◌%◌, ◌≤◌, ◌&&◌, not, Bool, true, false, if◌then◌else◌, List, [], ◌∷◌, length, Some, refl, sym, ◌∙◌, arith, All, IsAccess, OnOk, OnErr, Place, Bounds, lockable, Live, Entry, Runner, pages_of, attach_count, change, marked, locked, Span, Translation, IsCaller, caller_seen, pieces_at, PassPages, pieces_by, wanted, wanted_in, Child, born_child, pieces_by-caller, IsFound, SpanFits, page_there, relocked, get-set_same, get-set_other, sum-set, SamePages, SameTable, same-refl, change-pages, change-locked, change-left, PieceFits, PiecesFit, IsTableSound, IsWell, IsWellBut, StoreView, frame_of, cases_eq, nat_tests}
-use Rattle.std.proofs.Common.{true≢false}
-use Rattle.std.specs.Prelude.{Option, None, Result, Ok, Err, is_some}
-use Rattle.shm_base.specs.declared.owner.Cred.{Cred}
-use Rattle.shm_base.specs.Locking.{lock_refusal, may_not_lock, passes_limit}
-use Rattle.shm_base.specs.declared.errno.Errno.TheVariants.{Eperm, Enomem}
-use Rattle.shm_life.proofs.Names.{none-some}
-use Rattle.shm_base.specs.State.{Segment}
-use Rattle.shm_base.specs.State.{pages_in}
-use Rattle.shm_base.specs.Callers.{Caller as FlatCaller}
-use Rattle.shm_attach.specs.Spans.{AreSpans}
+use Rattle.shm_life.proofs.Names.{OrphansAmong, ◌≡◌, ℕ, ◌+◌, ◌/◌, ◌%◌, ◌≤◌, ◌&&◌, not, Bool, false, if◌then◌else◌, List, [], ◌∷◌, length, Some, refl, sym, ◌∙◌, arith, All, IsAccess, OnOk, OnErr, Place, Bounds, lockable, Live, Entry, Runner, pages_of, attach_count, change, marked, locked, Span, Translation, IsCaller, caller_seen, pieces_at, PassPages, pieces_by, wanted, wanted_in, Child, born_child, pieces_by-caller, IsFound, SpanFits, page_there, relocked, get-set_same, get-set_other, sum-set, SamePages, SameTable, same-refl, change-pages, change-locked, change-left, PieceFits, PiecesFit, IsTableSound, IsWell, IsWellBut, StoreView, frame_of, cases_eq, nat_tests, true≢false, Cred, lock_refusal, may_not_lock, passes_limit, Segment, pages_in, FlatCaller, AreSpans, AreProcesses, Option, None, Result, Ok, Err, is_some, Accessed, AreTrue, MovesLead, Touched, answer_of}
 use Rattle.shm_attach.specs.declared.process.Caller.{Caller}
 use Rattle.shm_segments.specs.declared.head.Found.{Found}
 use Rattle.shm_segments.specs.Table as table
-use Rattle.shm_life.specs.Sound.{AreProcesses}
 use Rattle.shm_life.proofs.Leaving.{orphans-among}
 use Rattle.shm_life.proofs.Pieces.{fit-set, fit-same}
-use Rattle.shm_life.proofs.Names.{Accessed, AreTrue, MovesLead, Touched, answer_of}
 use Rattle.shm_life.proofs.Settled.{caller-fits, moved-by, noted-well}
 use Rattle.shm_life.proofs.Running.{true_still, kept-by}
 
@@ -61,13 +49,7 @@ lock-few t f limits cred found few fits = grind (arith, nat_tests, relocked-sum 
 -- a lock that is granted passed both tests
 pub lock-granted : (limits : Bounds) (cred : Cred) (t : List Entry) (x : Segment) → lock_refusal limits cred t x ≡ None
     → (may_not_lock limits cred ≡ false) × ((not x.locked && passes_limit limits cred t x) ≡ false)
-lock-granted limits cred t x none = by (may_not_lock limits cred) (not x.locked && passes_limit limits cred t x) refl refl none
-  where
-    by : (a b : Bool) → may_not_lock limits cred ≡ a → (not x.locked && passes_limit limits cred t x) ≡ b → (if a then Some Eperm else if b then Some Enomem else None) ≡ None
-        → (may_not_lock limits cred ≡ false) × ((not x.locked && passes_limit limits cred t x) ≡ false)
-    by true b h k z = absurd (none-some _ (sym z))
-    by false true h k z = absurd (none-some _ (sym z))
-    by false false h k z = (h, k)
+lock-granted limits cred t x none = grind (arith, nat_tests, none)
 
 pub unlock-few : (t : List Entry) (f : Found) (most : ℕ) → IsFound t f → locked t ≤ most → locked (change t f.seg (relocked None)) ≤ most
 unlock-few t f most found few = let sum = relocked-sum t f found None in omega (arith, sum, few)

@@ -1,7 +1,5 @@
 -- What is kept where a segment is made.
-use Rattle.shm_life.proofs.Names.{◌≡◌, ◌≢◌, ◌⊎◌, ℕ, zero, suc, pos, ℤ, ◌+◌, ◌*◌, ◌/◌, ◌%◌, ◌<◌, ◌≤◌, ◌&&◌, nat_lt, Bool, true, false, is_none, List, [], ◌∷◌, ◌++◌, length, get_or, replicate, Some, None, refl, sym, ap, ◌∙◌, inl, inr, arith, eq-eqb, ne_eqb, cases_eq, cases_Bool, cases_lt, lt-ltb, le-ltb, none-some, slice_get_past, slice_get-get_or, length-append, length-replicate, sum_by-append, sum_by-cons, Bounds, Segment, Piece, Entry, Runner, pages_of, identifier, free_from, free_index, destroyed_at, destroyed_in, with_segment, pages_held, pages_locked, reserved, locked, Head, segment_of, live, made, created, get-set_same, get-set_other, length-slice_set, sum-set, PieceFits, OrphansAmong, IsTableSound, nat_tests}
-use Rattle.std.proofs.Common.{is_some, slice_get, slice_set, Option, option_map}
-use Rattle.shm_base.specs.State.{pages_in}
+use Rattle.shm_life.proofs.Names.{◌≡◌, ◌≢◌, ◌⊎◌, ℕ, zero, suc, pos, ℤ, ◌+◌, ◌*◌, ◌/◌, ◌%◌, ◌<◌, ◌≤◌, ◌&&◌, nat_lt, Bool, true, false, is_none, List, [], ◌∷◌, ◌++◌, length, get_or, replicate, Some, None, refl, sym, ap, ◌∙◌, inl, inr, arith, eq-eqb, ne_eqb, cases_eq, cases_Bool, cases_lt, lt-ltb, le-ltb, none-some, slice_get_past, slice_get-get_or, length-append, length-replicate, sum_by-append, sum_by-cons, Bounds, Segment, Piece, Entry, Runner, pages_of, identifier, free_from, free_index, destroyed_at, destroyed_in, with_segment, pages_held, pages_locked, reserved, locked, Head, segment_of, live, made, created, get-set_same, get-set_other, length-slice_set, sum-set, PieceFits, OrphansAmong, IsTableSound, nat_tests, pages_in, is_some, slice_get, slice_set, Option, option_map}
 use Rattle.shm_life.proofs.Pieces.{fit-table}
 
 -- WHAT STANDS AT A FREE INDEX
@@ -10,7 +8,7 @@ record FreeAt (i : ℕ) (es : List Entry) (j : ℕ) : Type 0 where
   k : ℕ
   at : i + k ≡ j
   within : k ≤ length es
-  small : i + length es ≤ 32768 → j < 32768
+  small : k ≡ length es → j < 32768
   none : (e : Entry) → slice_get es k ≡ Some e → e.segment ≡ None
 
 is-none : (o : Option Segment) (b : Bool) → is_none o && b ≡ true → o ≡ None
@@ -32,20 +30,20 @@ free-at i (e ∷ es) j found =
             k = 0;
             at = omega (arith, is);
             within = omega arith;
-            small = λ le. omega (arith, is, le);
+            small = λ none. absurd (omega (arith, none));
             none = λ x z. let same : e ≡ x = cc z in rw (← same) (is-none e.segment (nat_lt e.destroyed 65536) h);
           }
       | inr h ↦
           let r = free-at (i + 1) es j (rw h at found) in
-          record { k = suc r.k; at = omega (arith, r.at); within = omega (arith, r.within); small = λ le. r.small (omega (arith, le)); none = r.none }
+          record { k = suc r.k; at = omega (arith, r.at); within = omega (arith, r.within); small = λ end. r.small (omega (arith, end)); none = r.none }
     ]
 
-record IsFree (t : List Entry) (i : ℕ) : Type 0 where
-  within : i ≤ length t
-  small : length t ≤ 32768 → i < 32768
-  none : (e : Entry) → slice_get t i ≡ Some e → e.segment ≡ None
+pub record IsFree (t : List Entry) (i : ℕ) : Type 0 where
+  pub within : i ≤ length t
+  pub small : i ≡ length t → i < 32768
+  pub none : (e : Entry) → slice_get t i ≡ Some e → e.segment ≡ None
 
-is-free : (t : List Entry) (i : ℕ) → free_index t ≡ Some i → IsFree t i
+pub is-free : (t : List Entry) (i : ℕ) → free_index t ≡ Some i → IsFree t i
 is-free t i found = grind (arith, free-at 0 t i found)
 
 -- THE TABLE WITH A SEGMENT MORE
@@ -61,14 +59,14 @@ get-before (x ∷ xs) e zero n = refl
 get-before (x ∷ xs) e (suc j) n = get-before xs e j (λ z. n (ap suc z))
 
 -- what a segment put at a free index leaves
-record Added (t u : List Entry) (i : ℕ) (s : Segment) : Type 0 where
-  size : (length u ≡ length t) ⊎ (length u ≡ i + 1)
-  here : slice_get u i ≡ Some (record { destroyed = destroyed_at t i; segment = Some s })
-  others : (j : ℕ) → j ≢ i → slice_get u j ≡ slice_get t j
+pub record Added (t u : List Entry) (i : ℕ) (s : Segment) : Type 0 where
+  size : (length u ≡ length t) ⊎ ((i ≡ length t) × (length u ≡ i + 1))
+  pub here : slice_get u i ≡ Some (record { destroyed = destroyed_at t i; segment = Some s })
+  pub others : (j : ℕ) → j ≢ i → slice_get u j ≡ slice_get t j
   pages : reserved u ≡ reserved t + pages_in s
   locks : locked u ≡ locked t + pages_locked (Some s)
 
-added : (t : List Entry) (i : ℕ) (s : Segment) → IsFree t i → Added t (with_segment t i s) i s
+pub added : (t : List Entry) (i : ℕ) (s : Segment) → IsFree t i → Added t (with_segment t i s) i s
 added t i s free = by (cases_eq i (length t))
   where
     last : Entry
@@ -84,7 +82,7 @@ added t i s free = by (cases_eq i (length t))
         let one_lock = sum_by-cons (λ (x : Entry). pages_locked x.segment) last [] in
         rw is
         (record {
-          size = inr (length-append t (last ∷ []) ∙ omega (arith, e));
+          size = inr (e, length-append t (last ∷ []) ∙ omega (arith, e));
           here = rw (none, e) (get-last t last);
           others = λ j n. get-before t last j (λ z. n (z ∙ sym e));
           pages = omega (arith, held, one);
@@ -124,7 +122,7 @@ module _ (t u : List Entry) (i : ℕ) (s : Segment) (a : Added t u i s) (free : 
   orphans-added dest rs none = λ j h. grind (arith, nat_tests, cases_eq j i, a.here, a.others j, dest, none j, h)
 
   few-added : length t ≤ 32768 → length u ≤ 32768
-  few-added few = grind (arith, a.size, free.small few, few)
+  few-added few = grind (arith, a.size, free.small, few)
 
 pages-zeros : (size : ℕ) → length {A = ℕ} (replicate (4096 * pages_of size) 0) / 4096 ≡ pages_of size
 pages-zeros size = let long : length {A = ℕ} (replicate (4096 * pages_of size) 0) ≡ 4096 * pages_of size = length-replicate (4096 * pages_of size) 0 in rw long (omega arith)

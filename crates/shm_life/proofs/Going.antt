@@ -1,19 +1,10 @@
 -- A process whose pieces go, or come: what the calls on segments need, and what is kept but for segments that
 -- lost their last piece.
-use Rattle.shm_life.proofs.Names.{◌≡◌, ◌≤◌, ℕ, ◌+◌, ◌*◌, ◌%◌, false, List, [], ◌∷◌, zero, suc, Some, None, refl, sym, ap, ◌∙◌, arith, All-nil, All, set_in, Bounds, Piece, Life, Live, Entry, Runner, cut, pieces_of, origin_of, without_named, change, with_entry, attached, attach_all, attach_all-same, detached, detach_all, same-refl, same-trans, segments_of, AtFlags, StoreView, Translation, AreTrue, IsCaller, caller_seen, pieces_at, rest_segments, IsLive, SameTable, change-same, Placed, piece_for, pieces_with, PieceFits, is_among, IsTableSound, IsTableSoundBut, IsWell, IsWellBut}
-use Rattle.std.proofs.Common.{slice_get, slice_set, Option, option_map, Bool, true, if◌then◌else◌}
-use Rattle.shm_base.specs.Rules.{rest_is_attached}
-use Rattle.shm_base.specs.declared.owner.Cred.{Cred}
+use Rattle.shm_life.proofs.Names.{MayBeSwept, ◌≡◌, ◌≤◌, ℕ, ◌+◌, ◌*◌, ◌%◌, false, List, [], ◌∷◌, zero, suc, Some, None, refl, sym, ap, ◌∙◌, arith, All-nil, All, set_in, Bounds, Piece, Life, Live, Entry, Runner, cut, pieces_of, origin_of, without_named, change, with_entry, attached, attach_all, attach_all-same, detached, detach_all, same-refl, same-trans, segments_of, AtFlags, IsCaller, caller_seen, pieces_at, rest_segments, IsLive, SameTable, change-same, Placed, piece_for, pieces_with, PieceFits, is_among, IsTableSound, IsTableSoundBut, slice_get, slice_set, Option, option_map, Bool, true, if◌then◌else◌, rest_is_attached, Cred, AreProcesses, cut_segments, KeepsOwn, live, page_there, is_some, all-inserted}
 use Rattle.shm_attach.specs.declared.process.Caller.{Caller}
-use Rattle.shm_life.specs.Sound.{AreProcesses}
-use Rattle.shm_base.specs.Space.{cut_segments}
 use Rattle.shm_life.proofs.Running.{kept-by}
 use Rattle.shm_life.proofs.Leaving.{keeps-set, orphans-among, keeps-all, keeps-without, keeps-cut, keeps-rest, orphans-named, count-named}
-use Rattle.shm_attach.specs.Mapping.{KeepsOwn}
-use Rattle.shm_segments.specs.Table.{live, page_there}
-use Rattle.std.specs.Prelude.{is_some}
 use Rattle.shm_life.proofs.Peopled.{set-apart}
-use Rattle.shm_areas.proofs.Passing.{all-inserted}
 use Rattle.shm_life.proofs.Pieces.{pass-cut, pass-without, piece-same, fit-set}
 use Rattle.shm_life.proofs.Settled.{settled-table, caller-runner, caller-fits, lives-map, lives-cut, lives-origin, lives-rest}
 
@@ -26,10 +17,8 @@ pub record Goes (limits : Bounds) (t : List Entry) (after : List Runner) (lost :
   pub live : All (IsLive t) lost
   pub kept : IsTableSoundBut lost limits t after
 
--- so everything is sound except for these
-pub well-gone : {lost : List ℕ} (limits : Bounds) (t u : List Entry) (rs after : List Runner) (ts us : List Translation) (m : StoreView) → IsWell limits t rs ts m → Goes limits u after lost → AreTrue us m
-    → IsWellBut lost limits u after us m
-well-gone limits t u rs after ts us m w goes all = record { kept = goes.kept; frames = w.frames; room = w.room; translated = all }
+pub swept-may : {lost : List ℕ} (limits : Bounds) (t : List Entry) (after : List Runner) → Goes limits t after lost → MayBeSwept lost after t
+swept-may limits t after goes = record { live = goes.live; few = goes.kept.few; orphans = goes.kept.orphans }
 
 module _ (limits : Bounds) (t : List Entry) (rs : List Runner) (c : Caller) (k : IsTableSound limits t rs) (is : IsCaller c rs) where
   own : All (PieceFits t) (pieces_at rs c.index)
@@ -70,6 +59,12 @@ module _ (limits : Bounds) (t : List Entry) (rs : List Runner) (c : Caller) (k :
         kept = going (Live c.cred) (cut from to ps) (cut_segments from to ps) (pass-cut t from to ps own) (keeps-rest from to ps);
       }
 
+  -- exec and exit
+  pub all-go : (life : Life) → Goes limits t (replaced rs c life []) (segments_of (caller_seen c rs))
+  all-go life =
+      let ps = pieces_at rs c.index in
+      record { live = lives-map t ps own; kept = going life [] (segments_of (caller_seen c rs)) (All-nil (PieceFits t)) (keeps-all ps) }
+
   -- mprotect
   pub renewed-kept : (qs : List Piece) → KeepsOwn (pieces_at rs c.index) qs → IsTableSound limits t (replaced rs c (Live c.cred) qs)
   renewed-kept qs keeps =
@@ -92,14 +87,6 @@ module _ (limits : Bounds) (t : List Entry) (rs : List Runner) (c : Caller) (k :
         live = lives-cut t from to ps own;
         kept = going (Live c.cred) (pieces_with (caller_seen c rs) flags p) (cut_segments from to ps) (all-inserted (PieceFits t) (piece_for flags p) (cut from to ps) fits (pass-cut t from to ps own)) (keeps-cut from to (piece_for flags p) ps);
       }
-
--- exec and exit, with the pages where they were
-pub all-gone : (limits : Bounds) (t : List Entry) (rs : List Runner) (c : Caller) (ts : List Translation) (m : StoreView) → IsWell limits t rs ts m → IsCaller c rs → (life : Life) (us : List Translation) → AreTrue us m
-    → All (IsLive t) (segments_of (caller_seen c rs)) × IsWellBut (segments_of (caller_seen c rs)) limits t (replaced rs c life []) us m
-all-gone limits t rs c ts m w is life us all =
-    let ps = pieces_at rs c.index in
-    let kept = going limits t rs c w.kept is life [] (segments_of (caller_seen c rs)) (All-nil (PieceFits t)) (keeps-all ps) in
-    (lives-map t ps (own limits t rs c w.kept is), record { kept = kept; frames = w.frames; room = w.room; translated = all })
 
 -- ATTACHING
 

@@ -1,14 +1,5 @@
 -- A live segment is the only one at its index that processes have pieces of.
-use Rattle.shm_life.proofs.Names.{◌≡◌, ◌≢◌, ℕ, ◌%◌, true, false, List, [], ◌∷◌, Some, None, refl, sym, ◌∙◌, arith, Piece, Entry, Runner, attach_count, sum_by-cons, PiecesFit, PieceFits, common_steps}
-use Rattle.std.proofs.lemmas.Bool.{cases_Bool}
-use Rattle.std.proofs.lemmas.Bool.Decides.{nat_tests}
-use Rattle.std.proofs.lemmas.List.Elements.{All-head, All-tail}
-use Rattle.std.proofs.Common.{Option, inl, inr, is_some, slice_get, true≢false}
-use Rattle.std.specs.Prelude.{All}
-use Rattle.shm_base.specs.Space.{pieces_of}
-use Rattle.shm_base.specs.declared.bounds.TheConstants.{INDEXES}
-use Rattle.shm_attach.specs.Spaces.{IsOnlyAt}
-use Rattle.shm_segments.specs.Table.{IsLive, live, live_in}
+use Rattle.shm_life.proofs.Names.{◌≡◌, ◌≢◌, ℕ, ◌%◌, true, false, List, [], ◌∷◌, Some, None, refl, sym, ◌∙◌, arith, Piece, Entry, Runner, attach_count, sum_by-cons, PiecesFit, PieceFits, common_steps, cases_Bool, nat_tests, All-head, All-tail, All, pieces_of, INDEXES, IsOnlyAt, IsLive, live, live_in, Option, inl, inr, is_some, slice_get, true≢false}
 
 none-among : (table : List Entry) (id : ℕ) → is_some (live table id) ≡ false → (ps : List Piece) → All (PieceFits table) ps → pieces_of id ps ≡ 0
 none-among table id dead [] fit = refl

@@ -1,10 +1,6 @@
 -- Segments that a child inherits, noted piece by piece.
-use Rattle.shm_life.proofs.Names.{◌≡◌, ℕ, ◌+◌, ◌<◌, List, [], ◌∷◌, length, get_or, take, refl, ap, ◌∙◌, All, bare_all, Entry, Piece, change, attached, attach_all, IsLive}
-use Rattle.std.proofs.Common.{map}
+use Rattle.shm_life.proofs.Names.{◌≡◌, ℕ, ◌+◌, ◌<◌, List, [], ◌∷◌, length, get_or, take, refl, ap, ◌∙◌, All, bare_all, Entry, Piece, change, attached, attach_all, IsLive, map, length-map, Stored, segments_in}
 use Rattle.std.proofs.Math.ListN.{get_or-map}
-use Rattle.std.proofs.lemmas.List.{length-map}
-use Rattle.shm_areas.specs.declared.piece.Piece.{Piece as Stored}
-use Rattle.shm_life.specs.Inherited.{segments_in}
 use Rattle.shm_life.proofs.Settled.{change_all-more, live-attached}
 
 -- the segments of pieces as they are stored are those of the pieces

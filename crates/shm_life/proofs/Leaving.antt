@@ -1,8 +1,5 @@
 -- Which segments may be left without pieces when pieces go.
-use Rattle.shm_life.proofs.Names.{◌≡◌, ℕ, ◌-◌, ◌≤◌, true, false, not, List, [], ◌∷◌, length, filter, Some, refl, arith, Piece, Entry, Runner, attach_count, meets, cut, cut_segments, inserted, pieces_of, is_named, without_named, one_more, shorter_filter, pieces_of-inserted, pieces_of-cut_met, pieces_of-without, orphan_in, id_in, identifier_at, is_among, OrphansAmong, sum-set, nat_tests}
-use Rattle.std.proofs.Common.{map, slice_get, slice_set, Option, ◌<◌}
-use Rattle.std.proofs.lemmas.List.Sums.{get_or-le-sum_by}
-use Rattle.std.proofs.lemmas.Option.{get_or_from_slice_get, slice_get_within}
+use Rattle.shm_life.proofs.Names.{◌≡◌, ℕ, ◌-◌, ◌≤◌, true, false, not, List, [], ◌∷◌, length, filter, Some, refl, arith, Piece, Entry, Runner, attach_count, meets, cut, cut_segments, inserted, pieces_of, is_named, without_named, one_more, shorter_filter, pieces_of-inserted, pieces_of-cut_met, pieces_of-without, orphan_in, id_in, identifier_at, is_among, OrphansAmong, sum-set, nat_tests, map, slice_get, slice_set, Option, ◌<◌, get_or-le-sum_by, get_or_from_slice_get, slice_get_within}
 
 -- other segments keep their pieces
 abbrev pub KeepsPieces : List ℕ → List Runner → List Runner → Type 0
@@ -28,14 +25,17 @@ count-set : (rs : List Runner) (i : ℕ) (r x : Runner) (id : ℕ) → slice_get
 count-set rs i r x id there le =
     let a = sum-set (λ (y : Runner). pieces_of id y.pieces) rs i r x there in omega (arith, a, le)
 
+-- a process's pieces are counted
+pub had-count : (rs : List Runner) (i : ℕ) (x : Runner) (id : ℕ) → slice_get rs i ≡ Some x → pieces_of id x.pieces ≤ attach_count rs id
+had-count rs i x id there = rw (← get_or_from_slice_get rs i x x there) (get_or-le-sum_by (λ (y : Runner). pieces_of id y.pieces) rs i x (slice_get_within rs i x there))
+
 -- a process that keeps a piece of each segment that it had one of
 pub count-named : (rs : List Runner) (i : ℕ) (r x : Runner) → slice_get rs i ≡ Some x → ((id : ℕ) → 0 < pieces_of id x.pieces → 0 < pieces_of id r.pieces)
     → (id : ℕ) → 0 < attach_count rs id → 0 < attach_count (slice_set rs i r) id
 count-named rs i r x there named id some =
     let a = sum-set (λ (y : Runner). pieces_of id y.pieces) rs i r x there in
     let b = named id in
-    let had : pieces_of id x.pieces ≤ attach_count rs id =
-    rw (← get_or_from_slice_get rs i x x there) (get_or-le-sum_by (λ (y : Runner). pieces_of id y.pieces) rs i x (slice_get_within rs i x there)) in
+    let had = had-count rs i x id there in
     grind (arith, a, b, had, some)
 
 pub keeps-set : (lost : List ℕ) (rs : List Runner) (i : ℕ) (r x : Runner) → slice_get rs i ≡ Some x

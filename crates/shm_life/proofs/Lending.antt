@@ -1,44 +1,20 @@
 -- Pages on loan: what a host's load of a page leaves, and what an access leaves while pages are on loan.
-use Rattle.shm_base.specs.declared.guest.HostRange.{HostRange}
-use Rattle.shm_life.proofs.Names.{◌≡◌, ◌<◌, ◌≤◌, ◌*◌, ◌+◌, ◌/◌, ◌∙◌, ◌∷◌, [], ℕ, Bool, true, false, not, Some, None, List, length, if◌then◌else◌, refl, sym, ap, arith, subst, IsAccess, IsCaller, Machine, pieces_at, wanted_in, All-nil, none-some, Bounds, Runner, Translation, IsWell, inl, inr, loaded, ◌⊎◌, OnOk, Entry, Segment, Span, PageRef, InPage, page_of, span_places, StoreView, SpanFits, page_there, live, pages_held, Held, find_held, KeepsMemory, memory-trans, Place, nat_tests}
-use Rattle.std.proofs.Common.{true≢false, nat_lt, cond, get_or, suc, zero}
-use Rattle.std.proofs.lemmas.List.Sums.{sum_by-cons}
-use Rattle.std.proofs.lemmas.List.Elements.{All-cons}
-use Rattle.std.specs.Prelude.{◌&&◌, ◌++◌, count_by, nat_eq, slice_index_or, Option, Result, Ok, Err, IsSome, is_err, is_none, is_some, map, option_map}
-use Rattle.shm_base.specs.declared.errno.Errno.{Errno}
-use Rattle.shm_base.specs.Spans.{run}
-use Rattle.shm_base.specs.Callers.{Caller}
-use Rattle.shm_attach.specs.declared.process.Caller.{Caller as Called}
+use Rattle.shm_life.proofs.Names.{◌≡◌, ◌<◌, ◌≤◌, ◌*◌, ◌+◌, ◌/◌, ◌∙◌, ◌∷◌, [], ℕ, Bool, true, false, not, Some, None, List, length, if◌then◌else◌, refl, sym, ap, arith, subst, IsAccess, IsCaller, Machine, pieces_at, wanted_in, All-nil, Bounds, Runner, Translation, IsWell, inl, inr, loaded, ◌⊎◌, OnOk, Entry, Segment, Span, PageRef, InPage, page_of, span_places, StoreView, SpanFits, page_there, live, pages_held, Held, find_held, KeepsMemory, memory-trans, Place, nat_tests, HostRange, true≢false, nat_lt, cond, get_or, suc, zero, sum_by-cons, All-cons, Errno, run, Caller, Called, NameFrames, Act, Nothing, frame_by, FitsPage, Transfers, no_transfers, HasPage, rec_by, table_with, IsTableExact, as_held, again, visited, Does, DoesAt, DoesBy, LeavesOrFails, MachineView, ComeIn, ComeInUpTo, CountsPages, page_spans, pages_of_bytes, whole_page, ◌&&◌, ◌++◌, count_by, nat_eq, slice_index_or, Option, Result, Ok, Err, IsSome, is_err, is_some, map, option_map}
 use Rattle.shm_frames.specs.Frame.{Frame, frame_at, is_lent, lent_of, no_frame}
 use Rattle.shm_fault.proofs.Lending.{loans-set, stay-refl, stay-same, stay-stops, stay-trans, stay-visit}
 use Rattle.shm_fault.proofs.Placed.{bare-at}
 use Rattle.shm_fault.proofs.Slots.{set-cases}
 use Rattle.shm_fault.proofs.Spans.{fits-has}
-use Rattle.shm_fault.specs.Access.{NameFrames}
-use Rattle.shm_fault.specs.declared.act.Act.{Act}
-use Rattle.shm_fault.specs.declared.act.Act.TheVariants.{Nothing}
 use Rattle.shm_fault.specs.Acting.{PutAt, left_by, size_of, writes}
-use Rattle.shm_fault.specs.Goes.{frame_by}
-use Rattle.shm_fault.specs.Held.{FitsPage}
 use Rattle.shm_fault.specs.Loans.{LoansStay, SetsLent, is_barred, lent_at, loaned, with_loan}
-use Rattle.shm_fault.specs.Counting.{Transfers, no_transfers}
 use Rattle.shm_fault.specs.Placing.{Places, Stops, StopsAt, after_access, after_visit, dirtied, places, visit_counted, visited_in, with_dirty}
-use Rattle.shm_fault.specs.Segs.{HasPage, rec_by}
 use Rattle.shm_fault.specs.Store.{frame_of, held, is_page, ref_of}
 use Rattle.shm_slots.specs.Cause.{total}
-use Rattle.shm_segments.specs.Table.{table_with}
-use Rattle.shm_segments.specs.View.{IsTableExact, as_held}
-use Rattle.shm_segments.proofs.Again.{again, visited}
-use Rattle.shm_life.specs.Accessing.{Does, DoesAt, DoesBy, LeavesOrFails}
 use Rattle.shm_life.specs.declared.loans.NotReady.TheVariants as ready
 use Rattle.shm_life.specs.Lending.{ArePages, FailsToCome, KeepsLoans, MakesReady, is_clear, pages_asked, pages_asked_by, pages_wanted, IsLent, IsReturned, PutsBytes, lend_refusal, on_loan, page_places, return_refusal}
-use Rattle.shm_life.specs.declared.loans.ReturnRefusal.TheVariants as returning
-use Rattle.shm_life.specs.declared.loans.LendRefusal.TheVariants as lending
 use Rattle.shm_life.proofs.Accessing.{filled, noted, on-ok, view_with}
 use Rattle.shm_life.proofs.Settled.{still-well}
 use Rattle.shm_life.proofs.Running.{true_still}
-use Rattle.shm_life.specs.MachineView.{MachineView}
-use Rattle.shm_life.specs.Paging.{ComeIn, ComeInUpTo, CountsPages, page_spans, pages_of_bytes, whole_page}
 use Rattle.shm_life.proofs.Touching.{span-first, span-next, whole-page, whole-ref}
 
 lt-zero : (n : ℕ) → nat_lt n 0 ≡ false
@@ -211,13 +187,7 @@ failed r s t (Ok a) is free l = absurd (true≢false (sym is))
 failed r s t (Err e) is free l = fails-to-come r s t e free l
 
 pub lendable : (s : MachineView) (r : PageRef) → lend_refusal s r ≡ None → (page_there s.flat.table r.seg r.page ≡ true) × (is_barred r None (places s.memory) ≡ false)
-lendable s r none = by (is_none (live s.flat.table r.seg)) (page_there s.flat.table r.seg r.page) (is_barred r None (places s.memory)) none
-  where
-    by : (a b d : Bool) → (if a then Some lending.NoSegment else if not b then Some lending.NoPage else if d then Some lending.Lent else None) ≡ None → (b ≡ true) × (d ≡ false)
-    by true b d is = absurd (none-some _ (sym is))
-    by false false d is = absurd (none-some _ (sym is))
-    by false true true is = absurd (none-some _ (sym is))
-    by false true false is = (refl, refl)
+lendable s r none = grind (arith, nat_tests, none)
 
 -- marks of frames leave all well
 still-marked : (m n : StoreView) → n ≡ record m { frames = n.frames } → (s page : ℕ) → frame_of n s page ≡ frame_of m s page
@@ -233,13 +203,7 @@ marked-twice : (s m n : StoreView) → m ≡ record s { frames = m.frames } → 
 marked-twice s m n first second = second ∙ ap (λ (v : StoreView). record v { frames = n.frames }) first
 
 pub returnable : (s : MachineView) (r : PageRef) → return_refusal s r ≡ None → (page_there s.flat.table r.seg r.page ≡ true) × IsSome (frame_by s.memory r)
-returnable s r none = by (is_none (live s.flat.table r.seg)) (page_there s.flat.table r.seg r.page) (frame_by s.memory r) none
-  where
-    by : (a b : Bool) (o : Option ℕ) → (if a then Some returning.NoSegment else if not (b && lent_at (places s.memory) o) then Some returning.NotLent else None) ≡ None → (b ≡ true) × IsSome o
-    by true b o is = absurd (none-some _ (sym is))
-    by false false o is = absurd (none-some _ (sym is))
-    by false true None is = absurd (none-some _ (sym is))
-    by false true (Some f) is = (refl, refl)
+returnable s r none = grind (arith, nat_tests, none)
 
 pub put-fits : (table : List Entry) (r : PageRef) (f : Option ℕ) (p : Span) → p ≡ span_at r f → page_there table r.seg r.page ≡ true → SpanFits table p
 put-fits table r f p is there = subst (SpanFits table) (sym is) (page-fits table r f there)
@@ -396,8 +360,7 @@ none-lent m f none lent =
     true≢false (sym at ∙ none-counted is_lent m.frames f no_frame refl none)
 
 not-true : (b : Bool) → not b ≡ true → b ≡ false
-not-true true is = absurd (true≢false (sym is))
-not-true false is = refl
+not-true b is = grind (arith, nat_tests)
 
 stay-dirtied : (o : Option ℕ) (s : Places) → LoansStay s (dirtied o s)
 stay-dirtied None s = stay-refl s
@@ -427,12 +390,7 @@ StopsAtOne r q s t c =
 
 clear-both : (r q : PageRef) (s : Places) → (not (is_barred r None s) && not (is_barred q (rec_by (first_visited r s).segs r).frame (first_visited r s))) ≡ true
     → (is_barred r None s ≡ false) × (is_barred q (rec_by (first_visited r s).segs r).frame (first_visited r s) ≡ false)
-clear-both r q s clear = by (is_barred r None s) (is_barred q (rec_by (first_visited r s).segs r).frame (first_visited r s)) clear
-  where
-    by : (a b : Bool) → (not a && not b) ≡ true → (a ≡ false) × (b ≡ false)
-    by true b is = absurd (true≢false (sym is))
-    by false true is = absurd (true≢false (sym is))
-    by false false is = (refl, refl)
+clear-both r q s clear = grind (arith, nat_tests, clear)
 
 stay-accessed : (rs : List PageRef) (s : Places) → is_clear rs s ≡ true → LoansStay s (after_access (map whole_page rs) s)
 unfolding after_access

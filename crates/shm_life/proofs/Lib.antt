@@ -10,11 +10,9 @@ pub mod Opens
 pub mod Created
 pub mod Changed
 pub mod Inheriting
-pub mod Splitting
 pub mod Protected
 pub mod Going
 pub mod Attaching
-pub mod Reserved
 pub mod Joining
 pub mod Peopled
 pub mod Pids

@@ -1,13 +1,5 @@
 -- What a table says of the segments that were destroyed.
-use Rattle.std.proofs.Common.{◌≡◌, ◌<◌, ◌≤◌, ◌/◌, ◌%◌, ◌^◌, ◌&&◌, ◌∙◌, ℕ, Bool, true, false, List, Some, None, Option, nat_lt, length, slice_get, refl, sym, ap, arith, inl, inr}
-use Rattle.std.proofs.lemmas.Bool.{cases_lt}
-use Rattle.std.proofs.lemmas.Bool.Decides.{nat_tests}
-use Rattle.std.proofs.lemmas.Grind.{common_steps}
-use Rattle.std.proofs.lemmas.Option.{slice_get_past}
-use Rattle.std.specs.Prelude.{pos}
-use Rattle.shm_base.specs.Identifier.{Found, Invalid, Look, Removed, destroyed_at, destroyed_in, look, look_entry, look_segment}
-use Rattle.shm_base.specs.State.{Entry, Segment}
-use Rattle.shm_life.specs.Notices.{IsAllTold, is_untold, told_at}
+use Rattle.shm_life.proofs.Names.{◌≡◌, ◌<◌, ◌≤◌, ◌/◌, ◌%◌, ◌^◌, ◌&&◌, ◌∙◌, ℕ, Bool, true, false, List, Some, None, Option, nat_lt, length, slice_get, refl, sym, ap, arith, inl, inr, cases_lt, nat_tests, common_steps, slice_get_past, Found, Invalid, Look, Removed, destroyed_at, destroyed_in, look, look_entry, look_segment, Entry, Segment, IsAllTold, is_untold, told_at, pos}
 
 abbrev is_removed : Look → Bool
 is_removed Removed = true

@@ -1,8 +1,5 @@
 -- Where no start error holds, swap areas and processes are as their crates ask.
-use Rattle.shm_life.proofs.Names.{◌≡◌, ◌≢◌, ℕ, zero, suc, ◌≤◌, ◌&&◌, Bool, true, false, not, if◌then◌else◌, List, [], ◌∷◌, length, get_or, replicate, Some, None, refl, sym, ap, arith, common_steps, All-nil, All-map, length-replicate, get_or-replicate, get_or_past, AllPairs-cons, All, AllPairs, Bounds, Runner, runner_at_start, PieceFits, IsTableSound, Process, PageRef, SideCalls, pager_seen, IsAreaSize, owner_of, sizes, new_swap, fresh, are_sizes, has_pid, are_pids, start_error, nat_tests, lockable}
-use Rattle.std.proofs.Common.{map, Option, true≢false}
-use Rattle.shm_base.specs.Bounds.{Bounds}
-use Rattle.shm_base.specs.declared.bounds.TheConstants.{MOST_FRAMES, MOST_PROCESSES, MOST_SHMALL, MOST_SLOTS}
+use Rattle.shm_life.proofs.Names.{◌≡◌, ◌≢◌, ℕ, zero, suc, ◌≤◌, ◌&&◌, Bool, true, false, not, if◌then◌else◌, List, [], ◌∷◌, length, get_or, replicate, Some, None, refl, sym, ap, arith, common_steps, All-nil, All-map, length-replicate, get_or-replicate, get_or_past, AllPairs-cons, All, AllPairs, Bounds, Runner, runner_at_start, PieceFits, IsTableSound, Process, PageRef, SideCalls, pager_seen, IsAreaSize, owner_of, sizes, new_swap, fresh, are_sizes, has_pid, are_pids, start_error, nat_tests, lockable, map, Option, true≢false, MOST_FRAMES, MOST_PROCESSES, MOST_SHMALL, MOST_SLOTS}
 use Rattle.shm_life.proofs.Pieces.{all-cons}
 use Rattle.shm_life.proofs.Peopled.{fresh-apart}
 

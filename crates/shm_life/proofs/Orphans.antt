@@ -1,6 +1,5 @@
 -- Sweeping: destroying one orphan after another is the sweep of the whole table.
-use Rattle.shm_life.proofs.Names.{◌≡◌, ℕ, zero, suc, ◌+◌, true, false, List, [], ◌∷◌, Some, None, refl, ap, arith, none-some, Segment, Entry, Runner, identifier, swept_at, swept_from, swept, is_orphan, orphan_in, orphan, OrphansAmong, nat_tests}
-use Rattle.std.proofs.Common.{slice_get, slice_set, Option}
+use Rattle.shm_life.proofs.Names.{◌≡◌, ℕ, zero, suc, ◌+◌, true, false, List, [], ◌∷◌, Some, None, refl, ap, arith, none-some, Segment, Entry, Runner, identifier, swept_at, swept_from, swept, is_orphan, orphan_in, orphan, OrphansAmong, nat_tests, slice_get, slice_set, Option}
 
 swept_at-none : (i : ℕ) (rs : List Runner) (d : ℕ) (o : Option Segment) → is_orphan rs (identifier i d) o ≡ false → swept_at i rs d o ≡ record { destroyed = d; segment = o }
 swept_at-none i rs d o h = grind (arith, nat_tests)

@@ -1,14 +1,5 @@
 -- The page of an address, from the spans of a byte there.
-use Rattle.shm_life.proofs.Names.{◌≡◌, ◌≤◌, ◌∙◌, ◌∷◌, [], ℕ, Bool, true, false, List, Some, None, length, refl, ap, arith, IsAccess, IsCaller, Machine, pieces_at, wanted_in, Entry, Span, Place, InPage, span_places, SpanFits}
-use Rattle.std.proofs.Common.{suc, zero}
-use Rattle.std.specs.Prelude.{◌++◌, slice_index_or, Option, Result, Ok, Err, IfOk, IfErr, is_ok, is_some}
-use Rattle.shm_base.specs.Spans.{run}
-use Rattle.shm_base.specs.Callers.{caller_of}
-use Rattle.shm_base.specs.declared.errno.Errno.{Errno}
-use Rattle.shm_base.specs.declared.errno.Errno.TheVariants.{Sigsegv}
-use Rattle.shm_attach.specs.declared.process.Caller.{Caller as Called}
-use Rattle.shm_fault.specs.Store.{ref_of}
-use Rattle.shm_life.specs.Lending.{page_seen, page_shown}
+use Rattle.shm_life.proofs.Names.{◌≡◌, ◌≤◌, ◌∙◌, ◌∷◌, [], ℕ, Bool, true, false, List, Some, None, length, refl, ap, arith, IsAccess, IsCaller, Machine, pieces_at, wanted_in, Entry, Span, Place, InPage, span_places, SpanFits, suc, zero, run, caller_of, Errno, Sigsegv, Called, ref_of, page_seen, page_shown, ◌++◌, slice_index_or, Option, Result, Ok, Err, IfOk, IfErr, is_ok, is_some}
 
 shown-first : (n : ℕ) (p : Span) (rest : List Place) (w : Bool) → n ≡ p.len → InPage p → page_shown w (Some (run p.seg p.at n false ++ rest)) ≡ Ok (ref_of p, w)
 shown-first zero p rest w is fit = absurd (omega (arith, is, fit.0))

@@ -1,32 +1,10 @@
 -- As many processes as there may be, no two with one pid: what calls and hosts keep of that.
-use Rattle.std.proofs.lemmas.Bool.{cases_eq}
-use Rattle.std.proofs.Common.{inl, inr, eq-eqb, ne_eqb, ◌≡◌, ◌≢◌, ℕ, zero, suc, ◌+◌, ◌-◌, ◌<◌, ◌≤◌, List, [], ◌∷◌, ◌++◌, length, get_or, set, map, Option, Some, None, refl, sym, ap, ◌∙◌, arith, subst, Bool, true, false, not, if◌then◌else◌, nat_le, slice_get, slice_set}
-use Rattle.std.specs.Prelude.{AllPairs, Result, Ok, Err, IfOk, OnErr, swap_remove}
+use Rattle.shm_life.proofs.Names.{cases_eq, inl, inr, ◌≡◌, ◌≢◌, ℕ, zero, suc, ◌+◌, ◌-◌, ◌<◌, ◌≤◌, List, [], ◌∷◌, ◌++◌, length, get_or, set, map, Some, None, refl, sym, ap, ◌∙◌, arith, slice_get, slice_set, AllPairs, Result, IfOk, OnErr, swap_remove, get_or-set_at, slice_get_within, slice_get-get_or, Live, Runner, runner_at_start, Caller, unborn_from, standing, joins, leaves, left_by, Process, AdmitRefusal, DismissRefusal, HostMemory, SpacesView, Child, born_child, child_at, length-slice_set, AreProcesses, get_or-take, get_or-set_other, get_or_default, length-map, length-set, length-take, length_push}
 use Rattle.std.proofs.lemmas.List.Quantifiers.{all_pairs_push}
-use Rattle.std.proofs.lemmas.List.{get_or-take, get_or-set_other, get_or_default, get_or-map, length-map, length-set, length-take, length_push}
-use Rattle.std.proofs.lemmas.Grind.{get_or-set_at}
-use Rattle.std.proofs.lemmas.Option.{slice_get_within, slice_get-get_or}
-use Rattle.shm_base.specs.State.{Live, Runner, runner_at_start}
-use Rattle.shm_base.specs.Bounds.{within}
-use Rattle.shm_base.specs.Callers.{Caller}
-use Rattle.shm_base.specs.Step.{unborn_from}
-use Rattle.shm_base.specs.Guest.{Standing, standing, standing_from, joins, joins_beside, leaves, leaves_found, left_by, is_live, is_ended}
-use Rattle.shm_base.specs.declared.bounds.TheConstants.{LAST_PID}
-use Rattle.shm_base.specs.declared.call.Process.{Process}
-use Rattle.shm_base.specs.declared.guest.AdmitRefusal.{AdmitRefusal}
-use Rattle.shm_base.specs.declared.guest.AdmitRefusal.TheVariants.{BadPid, PidTaken, TooManyProcesses}
-use Rattle.shm_base.specs.declared.guest.DismissRefusal.{DismissRefusal}
-use Rattle.shm_base.specs.declared.guest.DismissRefusal.TheVariants.{StillLive}
-use Rattle.shm_base.specs.declared.memory.HostMemory.{HostMemory}
-use Rattle.shm_attach.specs.Spaces.{SpacesView}
-use Rattle.shm_attach.specs.declared.process.Child.{Child}
-use Rattle.shm_attach.specs.Fork.{born_child}
-use Rattle.shm_attach.proofs.Joining.{standing-there}
-use Rattle.shm_attach.proofs.Callers.{child_at}
+use Rattle.std.proofs.lemmas.List.{get_or-map}
+use Rattle.shm_attach.proofs.Joining.{absent-from, standing-there, there-found}
 use Rattle.shm_attach.proofs.Processes.{first_runner}
-use Rattle.shm_segments.proofs.Entries.{length-slice_set}
-use Rattle.shm_life.proofs.Names.{nat_tests}
-use Rattle.shm_life.specs.Sound.{AreProcesses}
+use Rattle.shm_life.proofs.Joining.{by-admitted, by-dismissed}
 
 abbrev pub Apart : Runner → Runner → Type 0
 Apart p q = p.pid ≢ q.pid
@@ -50,59 +28,14 @@ set-apart most rs i r old there same k =
 
 -- A PROCESS JOINS
 
-absent : (n pid : ℕ) (rs : List Runner) → standing_from n pid rs ≡ None → (k : ℕ) (d : Runner) → k < length rs → (get_or rs k d).pid ≢ pid
-absent n pid [] is k d lt = absurd (omega (arith, lt))
-absent n pid (r ∷ rs) is zero d lt = elim (cases_eq r.pid pid) [
-  | inl same ↦ absurd (cc (rw (eq-eqb r.pid pid same) at is))
-  | inr other ↦ other
-]
-absent n pid (r ∷ rs) is (suc k) d lt = elim (cases_eq r.pid pid) [
-  | inl same ↦ absurd (cc (rw (eq-eqb r.pid pid same) at is))
-  | inr other ↦ absent (n + 1) pid rs (rw (ne_eqb r.pid pid other) at is) k d (omega (arith, lt))
-]
-
-named : (n pid : ℕ) (rs : List Runner) (x : Standing) → standing_from n pid rs ≡ Some x → x.runner.pid ≡ pid
-named n pid [] x is = absurd (cc is)
-named n pid (r ∷ rs) x is = elim (cases_eq r.pid pid) [
-  | inl same ↦
-      let found : Some (record { index = n; runner = r }) ≡ Some x = rw (eq-eqb r.pid pid same) at is in
-      let it : record { index = n; runner = r } ≡ x = cc found in
-      ap (λ (y : Standing). y.runner.pid) (sym it) ∙ same
-  | inr other ↦ named (n + 1) pid rs x (rw (ne_eqb r.pid pid other) at is)
-]
-
 behind : (most : ℕ) (p : Process) (rs : List Runner) → standing p.pid rs ≡ None → length rs < most → AreProcesses most rs → AreProcesses most (rs ++ runner_at_start p ∷ [])
-behind most p rs new lt k = record { few = omega (arith, lt, length_push rs (runner_at_start p)); apart = all_pairs_push Apart rs (runner_at_start p) k.apart (λ a d l. absent 0 p.pid rs new a d l) }
-
-joins-there : (most : ℕ) (p : Process) (rs after : List Runner) (o : Option Standing) → standing p.pid rs ≡ o → joins_beside most p rs o ≡ Ok after → AreProcesses most rs → AreProcesses most after
-joins-there most p rs after None is joined k = by (nat_le most (length rs)) refl joined
-  where
-    by : (b : Bool) → nat_le most (length rs) ≡ b → (if b then Err TooManyProcesses else Ok (rs ++ runner_at_start p ∷ [])) ≡ Ok after → AreProcesses most after
-    by true le out = absurd (cc out)
-    by false le out =
-        let same : rs ++ runner_at_start p ∷ [] ≡ after = cc out in
-        let lt : length rs < most = grind (arith, nat_tests, le) in
-        subst (AreProcesses most) same (behind most p rs is lt k)
-joins-there most p rs after (Some x) is joined k = by (not (is_ended x.runner.life)) joined
-  where
-    by : (b : Bool) → (if b then Err PidTaken else Ok (slice_set rs x.index (runner_at_start p))) ≡ Ok after → AreProcesses most after
-    by true out = absurd (cc out)
-    by false out =
-        let same : slice_set rs x.index (runner_at_start p) ≡ after = cc out in
-        subst (AreProcesses most) same (set-apart most rs x.index (runner_at_start p) x.runner (standing-there p.pid rs x is) (named 0 p.pid rs x is) k)
-
-joined-apart : (most : ℕ) (p : Process) (rs after : List Runner) → joins most p rs ≡ Ok after → AreProcesses most rs → AreProcesses most after
-joined-apart most p rs after joined k = by (not (within 1 LAST_PID p.pid)) joined
-  where
-    by : (b : Bool) → (if b then Err BadPid else joins_beside most p rs (standing p.pid rs)) ≡ Ok after → AreProcesses most after
-    by true is = absurd (cc is)
-    by false is = joins-there most p rs after (standing p.pid rs) refl is k
+behind most p rs new lt k = record { few = omega (arith, lt, length_push rs (runner_at_start p)); apart = all_pairs_push Apart rs (runner_at_start p) k.apart (λ a d l. absent-from 0 p.pid rs new a d l) }
 
 pub admitted-apart : (most : ℕ) (p : Process) (a b : SpacesView) (r : Result (Result (Unit {0}) AdmitRefusal) HostMemory)
     → IfOk r (λ x. joins most p a.runners ≡ left_by x b.runners) → IfOk r (λ x. OnErr x (b ≡ a)) → OnErr r (b ≡ a) → AreProcesses most a.runners → AreProcesses most b.runners
-admitted-apart most p a b (Ok (Ok done)) joined refused err k = joined-apart most p a.runners b.runners joined k
-admitted-apart most p a b (Ok (Err e)) joined refused err k = subst (λ (v : SpacesView). AreProcesses most v.runners) (sym refused) k
-admitted-apart most p a b (Err e) joined refused err k = subst (λ (v : SpacesView). AreProcesses most v.runners) (sym err) k
+admitted-apart most p a b r joined refused err k =
+    by-admitted (AreProcesses most) most p a b r joined refused err (λ none room. behind most p a.runners none room k)
+    (λ x is. let there = there-found p.pid a.runners x is in set-apart most a.runners x.index (runner_at_start p) x.runner there.there there.named k) k
 
 -- A PROCESS LEAVES
 
@@ -162,19 +95,10 @@ module _ (rs : List Runner) (i : ℕ) (x : Runner) (there : i < length rs) where
             (sym (ap (λ (r : Runner). r.pid) p.same) ∙ e ∙ ap (λ (r : Runner). r.pid) q.same);
       }
 
-leaves-there : (most pid : ℕ) (rs after : List Runner) (o : Option Standing) → standing pid rs ≡ o → leaves_found rs o ≡ Ok after → AreProcesses most rs → AreProcesses most after
-leaves-there most pid rs after None is gone k = absurd (cc gone)
-leaves-there most pid rs after (Some x) is gone k = by (is_live x.runner.life) gone
-  where
-    by : (b : Bool) → (if b then Err StillLive else Ok (swap_remove rs x.index x.runner)) ≡ Ok after → AreProcesses most after
-    by true out = absurd (cc out)
-    by false out =
-        let same : swap_remove rs x.index x.runner ≡ after = cc out in
-        subst (AreProcesses most) same (left-apart rs x.index x.runner (slice_get_within rs x.index x.runner (standing-there pid rs x is)) most k)
-
 pub dismissed-apart : (most pid : ℕ) (a b : SpacesView) (r : Result (Unit {0}) DismissRefusal) → leaves pid a.runners ≡ left_by r b.runners → OnErr r (b ≡ a) → AreProcesses most a.runners → AreProcesses most b.runners
-dismissed-apart most pid a b (Ok done) gone refused k = leaves-there most pid a.runners b.runners (standing pid a.runners) refl gone k
-dismissed-apart most pid a b (Err e) gone refused k = subst (λ (v : SpacesView). AreProcesses most v.runners) (sym refused) k
+dismissed-apart most pid a b r gone refused k =
+    by-dismissed (AreProcesses most) pid a b r gone refused
+    (λ x is. left-apart a.runners x.index x.runner (slice_get_within a.runners x.index x.runner (standing-there pid a.runners x is)) most k) k
 
 -- A CHILD IS BORN
 

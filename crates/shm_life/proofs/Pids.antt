@@ -1,8 +1,5 @@
 -- Declared pids, from the last one on.
-use Rattle.shm_life.proofs.Names.{◌≡◌, ℕ, zero, suc, ◌+◌, ◌<◌, ◌==◌, true, false, List, [], ◌∷◌, length, drop, get_or, refl, ap, ◌∙◌, arith, nat_tests, within, Process, has_pid, are_pids}
-use Rattle.std.proofs.Common.{◌||◌}
-use Rattle.std.proofs.lemmas.List.{drop_more}
-use Rattle.shm_base.specs.declared.bounds.TheConstants.{LAST_PID}
+use Rattle.shm_life.proofs.Names.{◌≡◌, ℕ, zero, suc, ◌+◌, ◌<◌, ◌==◌, true, false, List, [], ◌∷◌, length, drop, get_or, refl, ap, ◌∙◌, arith, nat_tests, within, Process, has_pid, are_pids, ◌||◌, drop_more, LAST_PID}
 
 -- those from a place on, of which one is first
 from : (ps : List Process) (i j : ℕ) (d : Process) → i < length ps → j ≡ i + 1 → drop i ps ≡ get_or ps i d ∷ drop j ps

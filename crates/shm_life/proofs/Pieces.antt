@@ -1,9 +1,6 @@
 -- Pieces whose pages are there, through the changes that calls make to them.
-use Rattle.shm_life.proofs.Names.{Bool, false, if◌then◌else◌, refl, ◌≡◌, ℕ, zero, suc, ◌+◌, ◌-◌, ◌/◌, ◌<◌, true, not, nat_lt, List, [], ◌∷◌, length, get_or, Some, ap, ◌∙◌, arith, All-nil, All-filter, common_steps, All, Piece, Entry, Runner, end_of, meets, part_above, parts, cut, is_named, without_named, live, pages_at, SamePages, PieceFits, PiecesFit}
+use Rattle.shm_life.proofs.Names.{Bool, false, if◌then◌else◌, refl, ◌≡◌, ℕ, zero, suc, ◌+◌, ◌-◌, ◌/◌, ◌<◌, true, not, nat_lt, List, [], ◌∷◌, length, get_or, Some, ap, ◌∙◌, arith, All-nil, All-filter, common_steps, All, Piece, Entry, Runner, end_of, meets, part_above, parts, cut, is_named, without_named, live, pages_at, SamePages, PieceFits, PiecesFit, slice_get, slice_set, all-cut, is_some}
 pub use Rattle.std.proofs.lemmas.List.Elements.{All-cons as all-cons, All-head as all-head, All-tail as all-tail}
-use Rattle.std.proofs.Common.{slice_get, slice_set}
-use Rattle.shm_areas.proofs.Passing.{all-cut}
-use Rattle.std.specs.Prelude.{is_some}
 
 -- ALL OF A LIST
 

@@ -1,12 +1,5 @@
 -- mprotect, from what the address spaces answer.
-use Rattle.shm_life.proofs.Names.{◌≡◌, ◌∙◌, ℕ, Bool, refl, ap, sym, Machine}
-use Rattle.std.specs.Prelude.{Result, Ok, Err}
-use Rattle.shm_base.specs.Callers.{Caller, with_pieces}
-use Rattle.shm_base.specs.Mapping.{after_split, done_or, mprotect, protects, protects_pieces}
-use Rattle.shm_base.specs.declared.call.Reply.{Reply}
-use Rattle.shm_base.specs.declared.errno.Errno.{Errno}
-use Rattle.shm_attach.specs.Mapping.{refusal_in}
-use Rattle.shm_life.specs.MachineView.{done, replied}
+use Rattle.shm_life.proofs.Names.{◌≡◌, ◌∙◌, ℕ, Bool, refl, ap, sym, Machine, Result, Ok, Err, Caller, with_pieces, after_split, done_or, mprotect, protects, protects_pieces, Reply, Errno, refusal_in, done, replied}
 
 done-or : (r : Result (Unit {0}) Errno) → done_or (refusal_in r) ≡ replied done r
 done-or (Ok t) = refl

@@ -1,10 +1,5 @@
 -- The ranges that the host reserved.
-use Rattle.shm_life.proofs.Names.{◌≡◌, ℕ, ◌+◌, ◌*◌, ◌<◌, ◌≤◌, true, List, [], ◌∷◌, refl, arith, common_steps}
-use Rattle.std.proofs.Common.{◌⊎◌, inl, inr}
-use Rattle.std.proofs.lemmas.List.Elements.{All-head, All-tail}
-use Rattle.shm_base.specs.Space.{end_address, is_reserved, ranges_of}
-use Rattle.shm_base.specs.Guest.{is_range}
-use Rattle.shm_base.specs.declared.guest.HostRange.{HostRange}
+use Rattle.shm_life.proofs.Names.{◌≡◌, ℕ, ◌≤◌, true, List, [], ◌∷◌, refl, arith, common_steps, ◌⊎◌, inl, inr, All-head, All-tail, end_address, is_reserved, ranges_of, is_range, HostRange}
 use Rattle.shm_areas.specs.FreeGap.{AreRanges}
 
 -- a range that ends above the last address meets the same ranges as one that ends there

@@ -1,8 +1,6 @@
 -- A segment is removed: it is destroyed if it has no pieces, and marked if it has some.
-use Rattle.shm_life.proofs.Names.{◌≡◌, ◌≢◌, ℕ, ◌+◌, ◌/◌, ◌%◌, ◌≤◌, false, List, [], ◌∷◌, length, get_or, Some, None, refl, sym, ap, ◌∙◌, eq-eqb, ne_eqb, All, Entry, Runner, attach_count, change, marked, swept, live, destroyed, is_orphan, get-set_same, IsFound, segment_seen, OrphansAmong, Sweeps, IsWell, StoreView, frame_of, Translation, AreTrue, KeepsMemory, Bounds, sizes, subst, length-slice_set}
-use Rattle.std.proofs.Common.{slice_get, slice_set, zero, suc}
+use Rattle.shm_life.proofs.Names.{◌≡◌, ◌≢◌, ℕ, ◌+◌, ◌/◌, ◌%◌, ◌≤◌, false, List, [], ◌∷◌, length, get_or, Some, None, refl, sym, ap, ◌∙◌, eq-eqb, ne_eqb, All, Entry, Runner, attach_count, change, marked, swept, live, destroyed, is_orphan, get-set_same, IsFound, segment_seen, OrphansAmong, Sweeps, IsWell, StoreView, frame_of, Translation, AreTrue, KeepsMemory, Bounds, sizes, subst, length-slice_set, slice_get, slice_set, zero, suc, Ends}
 use Rattle.shm_segments.specs.declared.head.Found.{Found}
-use Rattle.shm_segments.specs.Staying.{Ends}
 use Rattle.shm_life.proofs.Orphans.{swept-none}
 use Rattle.shm_life.proofs.Running.{sweeps-none, swept-well}
 use Rattle.shm_life.proofs.Sweeping.{fewer-destroyed, fewer-left, sweeps-destroyed}

@@ -1,8 +1,5 @@
 -- How many pages of a segment are in frames, and how many only in slots.
-use Rattle.shm_life.proofs.Names.{◌≡◌, ◌<◌, ◌≤◌, ◌+◌, ◌∙◌, ℕ, if◌then◌else◌, zero, suc, None, refl, sym, ap, arith, length, List, ◌++◌, replicate, sum_by-append, StoreView, frame_of, PageRef}
-use Rattle.std.proofs.Common.{◌-◌, Option, count_by}
-use Rattle.shm_base.specs.Stored.{padded}
-use Rattle.shm_life.specs.Residency.{is_away, resident_below}
+use Rattle.shm_life.proofs.Names.{◌≡◌, ◌<◌, ◌≤◌, ◌+◌, ◌∙◌, ℕ, if◌then◌else◌, zero, suc, None, refl, sym, ap, arith, length, List, ◌++◌, replicate, sum_by-append, StoreView, frame_of, PageRef, ◌-◌, Option, count_by, padded, is_away, resident_below}
 
 nothing : (n : ℕ) → 0 + n ≡ n
 nothing n = omega arith

@@ -1,33 +1,8 @@
 -- What calls keep of the memory.
-use Rattle.shm_life.proofs.Names.{◌≡◌, ◌<◌, ◌+◌, ℕ, Bool, true, false, List, [], ◌∷◌, length, drop, get_or, refl, sym, ◌∙◌, arith, ◌≤◌, drop-cons, is_err, OnOk, OnErr, Bounds, Entry, Runner, sizes, StoreView, frame_of, GoesOn-refl, Translation, AreTrue, KeepsMemory, IsWell, IsWellBut, IsTableSoundBut, KeepsOn, SegRec, held_by, nat_tests, OrphansAmong, Sweeps, PiecesFit, reserved, locked, lockable}
-use Rattle.std.proofs.Common.{map, is_some, ap, true≢false}
+use Rattle.shm_life.proofs.Names.{Counts, SwapView, ◌≡◌, ◌<◌, ◌+◌, ℕ, Bool, true, false, List, [], ◌∷◌, length, drop, get_or, refl, sym, ◌∙◌, arith, ◌≤◌, drop-cons, is_err, OnOk, OnErr, Bounds, Entry, Runner, sizes, StoreView, frame_of, GoesOn-refl, Translation, AreTrue, KeepsMemory, IsWell, IsWellBut, IsTableSoundBut, KeepsOn, SegRec, held_by, nat_tests, OrphansAmong, Sweeps, PiecesFit, reserved, locked, lockable, with_seg_lock, holds_locked, memory-refl, Outcome, is_refusal, Reply, Refused, Errno, AreProcesses, MachineView, Answered, IsFailed, Did, DidUpTo, Pages, Paging, Rests, Ends, MovesNone, moves-refl, Result, Ok, Err, is_ok, ProcessCall, IsCaller, AnsweredBy, Served, SystemState, Replied, most_calls, seen, time_of, IsMove, is_failure, changed_by, changes_of, counted_after, inl, inr, map, is_some, ap, true≢false, ◌≢◌, IfSome}
 use Rattle.shm_fault.specs.Store.{held, Still}
-use Rattle.shm_fault.specs.Segs.{with_seg_lock}
-use Rattle.shm_fault.specs.Held.{holds_locked}
-use Rattle.shm_segments.proofs.Remembered.{memory-refl}
-use Rattle.shm_base.specs.Callers.{Outcome}
-use Rattle.shm_base.specs.History.{is_refusal}
-use Rattle.shm_base.specs.declared.call.Reply.{Reply}
-use Rattle.shm_base.specs.declared.call.Reply.TheVariants.{Refused}
-use Rattle.shm_base.specs.declared.errno.Errno.{Errno}
-use Rattle.shm_life.specs.Sound.{AreProcesses}
-use Rattle.shm_life.specs.MachineView.{MachineView, Answered, IsFailed}
-use Rattle.shm_life.specs.Paging.{Did, DidUpTo, Pages, Paging}
-use Rattle.shm_life.specs.Paging.Paging.{Rests}
-use Rattle.shm_segments.specs.Staying.{Ends, MovesNone}
-use Rattle.shm_segments.proofs.Staying.{moves-refl}
-use Rattle.std.specs.Prelude.{Result, Ok, Err, is_ok}
-use Rattle.shm_fault.specs.Goes.{CountsFailure}
-use Rattle.shm_base.specs.Calls.{ProcessCall}
-use Rattle.shm_attach.specs.Spaces.{IsCaller}
 use Rattle.shm_attach.specs.declared.process.Caller.{Caller}
-use Rattle.shm_life.specs.MachineView.{AnsweredBy, Served}
-use Rattle.shm_life.specs.SystemState.{SystemState, Replied, most_calls, seen, time_of}
-use Rattle.shm_base.specs.History.{IsMove, is_failure}
-use Rattle.shm_life.specs.Changing.{changed_by, changes_of, counted_after}
 use Rattle.shm_life.proofs.Counted.{told}
-use Rattle.std.specs.Prelude.{◌≢◌, IfSome}
-use Rattle.std.proofs.Common.{inl, inr}
 
 pub keeps_refl : (m : StoreView) → KeepsOn m m
 keeps_refl m = record { kept = λ seg page a b e. e; goes_on = GoesOn-refl m.swap }
@@ -202,10 +177,10 @@ err_fact (Ok a) P is fact = absurd (true≢false (sym is))
 err_fact (Err e) P is fact = fact
 
 -- the failures that were counted, by the result
-pub none-failed : {A E : Type 0} (r : Result A E) (s t : StoreView) → is_err r ≡ false → CountsFailure (is_ok r) s t → CountsFailure true s t
-none-failed (Ok a) s t none fact = fact
-none-failed (Err e) s t none fact = absurd (true≢false none)
+pub none-failed : {A E : Type 0} (r : Result A E) (before after : SwapView) → is_err r ≡ false → Counts (is_ok r) before after → Counts true before after
+none-failed (Ok a) before after none fact = fact
+none-failed (Err e) before after none fact = absurd (true≢false none)
 
-pub one-failed : {A E : Type 0} (r : Result A E) (s t : StoreView) → is_err r ≡ true → CountsFailure (is_ok r) s t → CountsFailure false s t
-one-failed (Ok a) s t is fact = absurd (true≢false (sym is))
-one-failed (Err e) s t is fact = fact
+pub one-failed : {A E : Type 0} (r : Result A E) (before after : SwapView) → is_err r ≡ true → Counts (is_ok r) before after → Counts false before after
+one-failed (Ok a) before after is fact = absurd (true≢false (sym is))
+one-failed (Err e) before after is fact = fact

@@ -1,15 +1,5 @@
 -- A table seen with other times, and with the bytes of some segments hidden: what it counts and finds, and how it changes.
-use Rattle.std.proofs.Common.{◌≡◌, ℕ, suc, zero, ◌+◌, ◌/◌, ◌%◌, ◌==◌, ◌&&◌, ℤ, pos, negsuc, Bool, true, false, is_none, cond, if◌then◌else◌, List, [], ◌∷◌, ◌++◌, length, replicate, Option, Some, None, slice_get, slice_set, refl, sym, ap, ◌∙◌, inl, inr, arith}
-use Rattle.std.specs.Prelude.{is_some, option_map, sum_by}
-use Rattle.std.proofs.lemmas.Bool.{cases_Bool, cases_eq}
-use Rattle.std.proofs.lemmas.Grind.{common_steps}
-use Rattle.std.proofs.lemmas.List.{length-replicate}
-use Rattle.std.proofs.lemmas.List.Sums.{sum_by-cons}
-use Rattle.shm_base.specs.Access.{Place, set_in, entry_byte_set, with_byte, stored, byte_at, loaded}
-use Rattle.shm_base.specs.Identifier.{Look, Found, Removed, Invalid, destroyed_at, find_key, free_from, has_key, key_from, look, look_entry, look_segment, with_segment}
-use Rattle.shm_base.specs.Segments.{attach_all, attached, change, change_all, detach_all, detached, locked, locked_by_user, pages_held, pages_locked, pages_locked_by, reserved, segment_count, swept_at, swept_from, with_entry}
-use Rattle.shm_base.specs.State.{Entry, Runner, Segment, pages_in}
-use Rattle.shm_segments.proofs.Entries.{get-set_other, get-set_same, length-slice_set}
+use Rattle.shm_life.proofs.Names.{◌≡◌, ℕ, suc, zero, ◌+◌, ◌/◌, ◌%◌, ◌==◌, ◌&&◌, ℤ, pos, negsuc, Bool, true, false, is_none, cond, if◌then◌else◌, List, [], ◌∷◌, ◌++◌, length, replicate, Option, Some, None, slice_get, slice_set, refl, sym, ap, ◌∙◌, inl, inr, arith, cases_Bool, cases_eq, common_steps, length-replicate, sum_by-cons, Place, set_in, entry_byte_set, with_byte, stored, byte_at, loaded, Look, Found, Removed, Invalid, destroyed_at, find_key, free_from, has_key, key_from, look, look_entry, look_segment, with_segment, attach_all, attached, change, change_all, detach_all, detached, locked, locked_by_user, pages_held, pages_locked, pages_locked_by, reserved, segment_count, swept_at, swept_from, with_entry, Entry, Runner, Segment, pages_in, get-set_other, get-set_same, length-slice_set, is_some, option_map, sum_by}
 
 -- a segment with other times, and with its bytes hidden or not
 abbrev pub seen : (ℕ → ℕ) → Bool → Segment → Segment
@@ -35,7 +25,7 @@ seen_look time b Invalid = Invalid
 abbrev pub is_hidden : (ℕ → ℕ → Bool) → List Entry → Place → Bool
 is_hidden hidden t q = hidden (q.seg % 32768) (destroyed_at t (q.seg % 32768))
 
--- they are at each of these places; for `false`, at none
+-- for `true`, the bytes at each of these places are hidden; for `false`, those at none are
 abbrev pub AreHidden : (ℕ → ℕ → Bool) → Bool → List Entry → List Place → Type 0
 AreHidden hidden b t qs = (k : ℕ) (q : Place) → slice_get qs k ≡ Some q → is_hidden hidden t q ≡ b
 

@@ -1,31 +1,6 @@
 -- A call does the same to a machine and to that machine seen with other times and hidden bytes.
-use Rattle.std.proofs.Common.{◌≡◌, ℕ, ◌+◌, ◌*◌, ◌%◌, ◌^◌, ◌==◌, ℤ, pos, Bool, false, not, nat_lt, if◌then◌else◌, List, [], ◌∷◌, length, Option, Some, None, slice_get, slice_set, refl, ap, ◌∙◌, arith}
-use Rattle.std.specs.Prelude.{Result, Ok, Err}
-use Rattle.std.specs.Int.{w64, to_le_bytes, from_le_bytes}
-use Rattle.std.proofs.lemmas.Grind.{common_steps}
-use Rattle.std.proofs.lemmas.List.{length-replicate}
-use Rattle.shm_base.specs.Access.{Place, loaded, only_writable, places, same_bytes, stored, writable_places}
-use Rattle.shm_base.specs.Bounds.{within}
-use Rattle.shm_base.specs.Callers.{Caller, Outcome, gives, refuses, with_end, with_pieces}
-use Rattle.shm_base.specs.Calls.{ProcessCall}
-use Rattle.shm_base.specs.Identifier.{Look, Found, Removed, Invalid, find_key, identifier, look}
-use Rattle.shm_base.specs.Locking.{lock_refusal, locks_as, unlocked}
-use Rattle.shm_base.specs.Mapping.{Protected, after_cut, after_split, done_or, protects, protects_pieces, rests, unmapped_to, unmaps}
-use Rattle.shm_base.specs.Permission.{grants, wish_of}
-use Rattle.shm_base.specs.Rules.{fork_marks, rest_is_attached}
-use Rattle.shm_base.specs.Segments.{after_detach, attach_all, attached, change, detach_all, reserved, swept}
-use Rattle.shm_base.specs.Space.{cut, cut_segments, origin_of}
-use Rattle.shm_base.specs.State.{Entry, Live, Machine, Piece, Runner, Segment, pages_of}
-use Rattle.shm_base.specs.Step.{acts, attaches_if, base_for, compare_exchange, controls, creates, creates_small, detaches, exchange, forks, gets, huge_errno, inherited, is_misplaced, is_no_owner, load, locks, locks_unless, new_segment, number_at, pieces_with, placed, placed_found, removes, segments_of, sets, shmat, shmget, stat, store, takes_away, unborn_from, unlocks, wants_creation, wants_no_other, xadd}
-use Rattle.shm_base.specs.declared.call.Call.TheVariants.{Shmget, Shmat, Shmdt, Stat, Set, Rmid, Lock, Unlock, Load, Store, Xadd, Exchange, CompareExchange, Fork, Exec, Exit, Swapoff, Munmap, Mprotect, Setuid}
-use Rattle.shm_base.specs.declared.call.Placed.{Placed}
-use Rattle.shm_base.specs.declared.call.Reply.{Reply}
-use Rattle.shm_base.specs.declared.call.Reply.TheVariants.{Addr, Bytes, Done, Id, Number}
+use Rattle.shm_life.proofs.Names.{◌≡◌, ℕ, ◌+◌, ◌*◌, ◌%◌, ◌^◌, ◌==◌, ℤ, pos, Bool, false, not, nat_lt, if◌then◌else◌, List, [], ◌∷◌, length, Option, Some, None, slice_get, slice_set, refl, ap, ◌∙◌, arith, Result, Ok, Err, w64, to_le_bytes, from_le_bytes, common_steps, length-replicate, Place, loaded, only_writable, places, same_bytes, stored, writable_places, within, Caller, Outcome, gives, refuses, with_end, with_pieces, ProcessCall, Look, Found, Removed, Invalid, find_key, identifier, look, lock_refusal, locks_as, unlocked, Protected, after_cut, after_split, done_or, protects, protects_pieces, rests, unmapped_to, unmaps, grants, wish_of, fork_marks, rest_is_attached, after_detach, attach_all, attached, change, detach_all, reserved, swept, cut, cut_segments, origin_of, Entry, Live, Machine, Piece, Runner, Segment, pages_of, acts, attaches_if, base_for, compare_exchange, controls, creates, creates_small, detaches, exchange, forks, gets, huge_errno, inherited, is_misplaced, is_no_owner, load, locks, locks_unless, new_segment, number_at, pieces_with, placed, placed_found, removes, segments_of, sets, shmat, shmget, stat, store, takes_away, unborn_from, unlocks, wants_creation, wants_no_other, xadd, Shmget, Shmat, Shmdt, Stat, Set, Rmid, Lock, Unlock, Load, Store, Xadd, Exchange, CompareExchange, Fork, Exec, Exit, Swapoff, Munmap, Mprotect, Setuid, Placed, Reply, Addr, Bytes, Done, Id, Number, Errno, Eacces, Eexist, Einval, Enomem, Enospc, Eperm, AtFlags, GetFlags}
 use Rattle.shm_base.specs.declared.call.Reply.TheVariants as replies
-use Rattle.shm_base.specs.declared.errno.Errno.{Errno}
-use Rattle.shm_base.specs.declared.errno.Errno.TheVariants.{Eacces, Eexist, Einval, Enomem, Enospc, Eperm}
-use Rattle.shm_base.specs.declared.flags.AtFlags.{AtFlags}
-use Rattle.shm_base.specs.declared.flags.GetFlags.{GetFlags}
 use Rattle.shm_life.proofs.Seeing.{AreHidden, Match, attach-seen, change-seen, count-seen, detach-seen, find-seen, free-seen, loaded-seen, locked-seen, locked_by-seen, look-seen, made-seen, reserved-seen, seen, seen-destroyed, seen-pages, seen_table, seen_look, stored-seen, swept-seen}
 
 -- the machine with other times, and with the bytes of some segments hidden

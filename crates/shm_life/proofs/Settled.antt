@@ -1,13 +1,16 @@
 -- What is kept through calls that take pieces out, and through those that put pieces in.
-use Rattle.shm_life.proofs.Names.{nat_tests, ◌≡◌, ℕ, zero, suc, ◌+◌, ◌<◌, take, Bool, List, [], ◌∷◌, length, get_or, filter, Some, None, refl, sym, ap, ◌∙◌, arith, All-nil, All-map, All-filter, none-some, All, find, Bounds, Piece, Live, Entry, Runner, Span, meets, cut_segments, leaves_rest, rest_segments, has_origin, origin_of, StoreView, PageMove, Touched, MovesLead, Accessed, answer_of, Translation, AreTrue, IsCaller, pieces_at, caller_there, IsLive, orphan, identifier_at, change, detach_all, SameTable, detach_all-same, PieceFits, PiecesFit, is_among, OrphansAmong, IsTableSoundBut, IsWellBut, IsWell, change_all, attach_all, attach_all-same, Segment, SegmentsView, view_of}
-use Rattle.std.proofs.Common.{map, slice_get, Option, option_map}
-use Rattle.std.specs.Prelude.{Result, Ok, Err}
+use Rattle.shm_life.proofs.Names.{nat_tests, ◌≡◌, ℕ, zero, suc, ◌+◌, ◌<◌, take, Bool, List, [], ◌∷◌, length, get_or, filter, Some, None, refl, sym, ap, ◌∙◌, arith, All-nil, All-map, All-filter, none-some, All, find, Bounds, Piece, Live, Entry, Runner, Span, meets, cut_segments, leaves_rest, rest_segments, has_origin, origin_of, StoreView, PageMove, Touched, MovesLead, Accessed, answer_of, Translation, AreTrue, IsCaller, pieces_at, caller_there, IsLive, orphan, identifier_at, change, detach_all, SameTable, detach_all-same, PieceFits, PiecesFit, is_among, OrphansAmong, IsTableSoundBut, IsWellBut, IsWell, change_all, attach_all, attach_all-same, Segment, SegmentsView, view_of, map, slice_get, Option, option_map, Result, Ok, Err}
 use Rattle.shm_attach.specs.declared.process.Caller.{Caller}
 use Rattle.shm_life.proofs.Running.{kept-by}
 use Rattle.shm_life.proofs.Pieces.{RunnerFits, all-cons, all-head, all-tail, all-at, fit-same}
 
 pub orphans-same : (ids : List ℕ) (rs : List Runner) (t u : List Entry) → ((qs : List Runner) (i : ℕ) → orphan qs u i ≡ orphan qs t i) → ((i : ℕ) → identifier_at u i ≡ identifier_at t i) → OrphansAmong ids rs t → OrphansAmong ids rs u
 orphans-same ids rs t u left own among = λ i h. ap (is_among ids) (own i) ∙ among i (sym (left rs i) ∙ h)
+
+-- the table and the pieces are sound, and the memory has its frames
+pub well-kept : {lost : List ℕ} (limits : Bounds) (t u : List Entry) (rs after : List Runner) (ts us : List Translation) (m : StoreView) → IsWell limits t rs ts m → IsTableSoundBut lost limits u after → AreTrue us m
+    → IsWellBut lost limits u after us m
+well-kept limits t u rs after ts us m w kept all = record { kept = kept; frames = w.frames; room = w.room; translated = all }
 
 -- no piece is removed
 pub settled-table : {lost : List ℕ} (limits : Bounds) (t u : List Entry) (rs : List Runner) → IsTableSoundBut lost limits t rs → SameTable t u → IsTableSoundBut lost limits u rs

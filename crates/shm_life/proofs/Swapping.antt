@@ -1,8 +1,5 @@
 -- The removal of a swap area, as the flat machine defines it.
-use Rattle.shm_life.proofs.Names.{◌≡◌, ℕ, zero, suc, ◌+◌, ◌<◌, ◌≤◌, List, [], ◌∷◌, get_or, Some, None, ap, arith, none-some, sum_by-cons, Machine, swapoff, refuses, gives, reserved, Done, Enomem, SwapView, AreaView, no_area, area_at, size_of, sizes}
-use Rattle.std.proofs.Common.{Option}
-use Rattle.std.specs.Prelude.{slice_get, slice_set, map}
-use Rattle.shm_base.specs.Callers.{Caller}
+use Rattle.shm_life.proofs.Names.{◌≡◌, ℕ, zero, suc, ◌+◌, ◌<◌, ◌≤◌, List, [], ◌∷◌, get_or, Some, None, ap, arith, none-some, sum_by-cons, Machine, swapoff, refuses, gives, reserved, Done, Enomem, SwapView, AreaView, no_area, area_at, size_of, sizes, Option, Caller, slice_get, slice_set, map}
 use Rattle.shm_base.specs.Segments as flat
 
 -- what the flat machine has of an area, and of the slots without it

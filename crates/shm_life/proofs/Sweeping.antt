@@ -1,7 +1,5 @@
 -- One segment is destroyed in a sweep, or stays if it has pieces or no mark.
-use Rattle.shm_life.proofs.Names.{common_steps, ◌≡◌, ◌≢◌, ℕ, ◌+◌, ◌/◌, ◌%◌, ◌<◌, ◌≤◌, ◌==◌, ◌&&◌, Bool, true, false, List, ◌∷◌, length, get_or, Some, None, refl, arith, cases_eq, slice_get_past, get_or-le-sum_by, Segment, Piece, Entry, Runner, identifier, attach_count, pages_held, pages_locked, pieces_of, pieces_of-there, live, destroyed, is_orphan, orphan, identifier_at, get-set_same, get-set_other, length-slice_set, sum-set, PieceFits, OrphansAmong, Sweeps, nat_tests}
-use Rattle.std.proofs.Common.{slice_get}
-use Rattle.std.specs.Prelude.{is_some}
+use Rattle.shm_life.proofs.Names.{common_steps, ◌≡◌, ◌≢◌, ℕ, ◌+◌, ◌/◌, ◌%◌, ◌<◌, ◌≤◌, ◌==◌, ◌&&◌, Bool, true, false, List, ◌∷◌, length, get_or, Some, None, refl, arith, cases_eq, slice_get_past, get_or-le-sum_by, Segment, Piece, Entry, Runner, identifier, attach_count, pages_held, pages_locked, pieces_of, pieces_of-there, live, destroyed, is_orphan, orphan, identifier_at, get-set_same, get-set_other, length-slice_set, sum-set, PieceFits, OrphansAmong, Sweeps, nat_tests, slice_get, is_some}
 use Rattle.shm_life.proofs.Orphans.{swept-destroyed}
 use Rattle.shm_life.proofs.Pieces.{fit-table}
 

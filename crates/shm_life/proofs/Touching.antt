@@ -1,20 +1,8 @@
 -- The pages of an access: those of its spans are those of its bytes.
-use Rattle.shm_life.proofs.Names.{◌≡◌, ℕ, zero, suc, ◌+◌, ◌*◌, ◌/◌, ◌≤◌, Bool, true, false, List, [], ◌∷◌, length, None, refl, sym, ap, ◌∙◌, arith, inl, inr, All, Place, Span, InPage, page_of, span_places, PageRef, StoreView, eq-eqb, subst}
-use Rattle.std.proofs.Common.{Option, Some, ◌++◌, if◌then◌else◌, is_some}
-use Rattle.std.proofs.lemmas.Bool.{false≢true}
-use Rattle.std.specs.Prelude.{map, ◌⊎◌}
-use Rattle.shm_base.specs.Spans.{run}
+use Rattle.shm_life.proofs.Names.{nat_tests, common_steps, ◌≡◌, ℕ, zero, suc, ◌+◌, ◌*◌, ◌/◌, ◌≤◌, Bool, true, false, List, [], ◌∷◌, length, None, refl, sym, ap, ◌∙◌, arith, inl, inr, All, Place, Span, InPage, page_of, span_places, PageRef, StoreView, eq-eqb, subst, false≢true, run, Transfers, counted, no_transfers, HasPage, rec_by, IsResident, frame_of, is_page, ref_of, again, dirtied-again, visited, Paged, Touched, All-cons, All-nil, page_of_byte, pages_after, pages_of_bytes, whole_page, ComeIn, ComeInUpTo, CountsPages, Option, ◌++◌, if◌then◌else◌, is_some, map, ◌⊎◌}
 use Rattle.shm_fault.specs.Acting.{left_by}
-use Rattle.shm_fault.specs.Placing.{Places, access_counted, after_access, after_visit, dirtied, page_counted, places, visit_counted, with_dirty, Stops, StopsAt}
-use Rattle.shm_fault.specs.Counting.{Transfers, counted, no_transfers}
-use Rattle.shm_fault.specs.Segs.{HasPage, rec_by}
-use Rattle.shm_fault.specs.Store.{IsResident, frame_of, is_page, ref_of}
+use Rattle.shm_fault.specs.Placing.{Places, access_counted, after_access, after_visit, dirtied, places, visit_counted, with_dirty, Stops, StopsAt}
 use Rattle.shm_fault.proofs.Pages.{same-true}
-use Rattle.shm_segments.proofs.Again.{again, dirtied-again, visited}
-use Rattle.shm_fault.specs.Access.{Paged}
-use Rattle.shm_fault.specs.declared.touched.Touched.{Touched}
-use Rattle.std.proofs.lemmas.List.Elements.{All-cons, All-nil}
-use Rattle.shm_life.specs.Paging.{page_of_byte, pages_after, pages_of_bytes, whole_page, ComeIn, ComeInUpTo, CountsPages}
 
 -- WHICH PAGES
 
@@ -98,11 +86,7 @@ came-pages s (twice {p} {q} same) has =
 -- a visit to a resident page counts nothing
 seen-counted : (r : PageRef) (pinned : Option ℕ) (s : Places) (c : Transfers) → is_some (rec_by s.segs r).frame ≡ true → visit_counted r pinned s c ≡ c
 unfolding visit_counted
-seen-counted r pinned s c some = by (rec_by s.segs r).frame some
-  where
-    by : (o : Option ℕ) → is_some o ≡ true → page_counted r o pinned s c ≡ c
-    by None some = absurd (false≢true some)
-    by (Some f) some = refl
+seen-counted r pinned s c some = grind (arith, common_steps, nat_tests)
 
 pub counted-pages : (s : Places) {ps : List Span} {rs : List PageRef} → HavePages ps rs → AllHave s ps → access_counted ps s ≡ access_counted (map whole_page rs) s
 unfolding access_counted

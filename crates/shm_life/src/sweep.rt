@@ -10,7 +10,7 @@ ghost use Rattle.shm_segments.specs.Table.{IsFound, IsLive};
 ghost use Rattle.shm_segments.specs.Staying.{Ends};
 ghost use Rattle.shm_segments.specs.View.{KeepsMemory};
 ghost use Rattle.shm_life.specs.Sound.{MakesWell};
-ghost use Rattle.shm_life.specs.Orphans.{OrphansAmong, Sweeps};
+ghost use Rattle.shm_life.specs.Orphans.{MayBeSwept, OrphansAmong, Sweeps};
 
 use bitflags::Flags;
 use shm_attach::Spaces;
@@ -128,9 +128,7 @@ pub(crate) fn after_detach<P: Pager>(
     time: u64,
     pid: u32,
 )
-    requires live { All (IsLive segments.old.table) lost.now }
-    requires few { length segments.old.table ≤ INDEXES }
-    requires orphans { OrphansAmong lost.now spaces.now.runners segments.old.table }
+    requires { MayBeSwept lost.now spaces.now.runners segments.old.table }
     ensures table { segments.new.table
         ≡ swept spaces.now.runners (detach_all time pid segments.old.table lost.now) }
     ensures well { MakesWell lost.now spaces.now segments.old segments.new }

@@ -1,16 +1,12 @@
 -- What holds after an access of the bytes of spans.
-use Rattle.shm_segments.proofs.Names.{◌≡◌, ℕ, Bool, true, false, List, length, Option, Some, None, refl, sym, ◌∙◌, All, Result, OnOk, OnErr, Ok, Err, if◌then◌else◌, Span, Held, StoreView, Head, held, joined_table, read_from, SegmentsView, KeepsMemory, IsWhole, loaded, span_places, SpanFits, Entry, Agree}
-use Rattle.shm_base.specs.Access.{same_bytes}
-use Rattle.shm_fault.specs.Acting.{Acts, FitsRoom, put_by, size_of}
+use Rattle.shm_segments.proofs.Names.{◌≡◌, ℕ, Bool, true, false, List, length, Option, Some, None, refl, sym, ◌∙◌, All, Result, OnOk, OnErr, Ok, Err, if◌then◌else◌, Span, Held, StoreView, Head, held, joined_table, read_from, SegmentsView, KeepsMemory, IsWhole, loaded, span_places, SpanFits, Entry, Agree, same_bytes, Acts, FitsRoom, put_by, size_of, table_with, get_or}
 use Rattle.shm_fault.specs.Allowed.{IsAccess}
 use Rattle.shm_fault.specs.declared.act.Act.{Act}
 use Rattle.shm_fault.specs.declared.act.Act.TheVariants.{Nothing, Put, PutIfEqual, Add}
 use Rattle.shm_fault.specs.declared.touched.PagerFailed.{PagerFailed}
 use Rattle.shm_fault.specs.declared.touched.Touched.{Touched}
 use Rattle.shm_segments.specs.Acted.{Acted}
-use Rattle.shm_segments.specs.Table.{table_with}
 use Rattle.shm_fault.proofs.Spans.{fits-has}
-use Rattle.std.proofs.Common.{get_or}
 use Rattle.shm_segments.proofs.Remembered.{Wrote, wrote, memory-same}
 use Rattle.shm_segments.proofs.Shown.{load_shown}
 use Rattle.shm_segments.proofs.Spanning.{spans-fit}

@@ -1,13 +1,8 @@
 -- A page that is visited twice, or becomes dirty twice.
-use Rattle.shm_segments.proofs.Names.{List, [], ◌∷◌, ◌≡◌, ℕ, zero, suc, Bool, true, false, set, Option, Some, None, is_some, refl, sym, ap, ◌∙◌, if◌then◌else◌, Frame}
-use Rattle.std.specs.Prelude.{position}
-use Rattle.shm_base.specs.declared.paging.PageRef.{PageRef}
+use Rattle.shm_segments.proofs.Names.{List, [], ◌∷◌, ◌≡◌, ℕ, zero, suc, Bool, true, false, set, Option, Some, None, is_some, refl, sym, ap, ◌∙◌, if◌then◌else◌, Frame, position, PageRef, frame_at, is_free, no_frame, HasPage, rec_by, has-same, outlines-with, rec-with}
 use Rattle.shm_base.specs.declared.paging.Slot.{Slot}
-use Rattle.shm_frames.specs.Frame.{frame_at, is_free, no_frame}
 use Rattle.shm_fault.specs.Goes.{outlines}
 use Rattle.shm_fault.specs.Placing.{Places, after_clean, after_eviction, after_page_out, after_room, after_turn, after_visit, dirtied, frame_for, free_slot, keeps_or_takes, referenced, settled, slotted_for, takes, vacated, vacated_for, victim_in, visited_in}
-use Rattle.shm_fault.specs.Segs.{HasPage, rec_by}
-use Rattle.shm_fault.proofs.Pages.{has-same, outlines-with, rec-with}
 
 -- a page's list of segments keeps its outline
 room-outlines : (s : Places) → outlines (after_room None s).segs ≡ outlines s.segs

@@ -1,6 +1,5 @@
 -- The pages of the segments that are held.
-use Rattle.shm_segments.proofs.Names.{◌≡◌, ◌≢◌, ℕ, ◌+◌, ◌*◌, ◌/◌, ◌≤◌, Bool, false, if◌then◌else◌, List, [], ◌∷◌, length, map, Some, refl, ◌∙◌, arith, ne_eqb, not, ◌==◌, none-some, common_steps, length-replicate, sum_by-cons, sum_by, sum-inserted, All, Span, AreHeldApart, Held, held_id, find_held, is_held, held_pages, pages_if_locked, with_zeros, without, with_lock, pasted, written, FitsPage, find_held-id, apart-pasted, sum_by-filter_both, nat_tests, replicate}
-use Rattle.shm_fault.specs.Held.{pages_in_store, locked_pages_in_store, lock_changed}
+use Rattle.shm_segments.proofs.Names.{◌≡◌, ◌≢◌, ℕ, ◌+◌, ◌*◌, ◌/◌, ◌≤◌, Bool, false, if◌then◌else◌, List, [], ◌∷◌, length, map, Some, refl, ◌∙◌, arith, ne_eqb, none-some, common_steps, length-replicate, sum_by-cons, sum_by, sum-inserted, All, Span, AreHeldApart, Held, held_id, find_held, is_held, held_pages, pages_if_locked, with_zeros, without, with_lock, pasted, written, FitsPage, find_held-id, apart-pasted, nat_tests, replicate, pages_in_store, locked_pages_in_store, lock_changed}
 use Rattle.shm_segments.proofs.Bytes.{each, written-keeps}
 
 -- ZEROS
@@ -22,12 +21,14 @@ locks-zeros hs id n = let sum = sum-inserted pages_if_locked held_id (new-held i
 
 -- ONE LESS
 
-sum-less : (f : Held → ℕ) (hs : List Held) (id : ℕ) → sum_by f (without hs id) ≤ sum_by f hs
-sum-less f hs id = omega (arith, sum_by-filter_both (λ (h : Held). not (h.id == id)) (λ (h : Held). not (not (h.id == id))) (λ h. refl) f hs)
+not-there : (hs : List Held) (id : ℕ) → is_held hs id ≡ false → without hs id ≡ hs
+not-there [] id none = refl
+not-there (h ∷ hs) id none = grind (arith, nat_tests, not-there hs id)
 
-pub sum-without : (f : Held → ℕ) (hs : List Held) (id : ℕ) (g : Held) → find_held hs id ≡ Some g → sum_by f (without hs id) + f g ≤ sum_by f hs
-sum-without f [] id g is = absurd (none-some g is)
-sum-without f (h ∷ hs) id g is = grind (arith, nat_tests, sum-less f hs id, sum-without f hs id g, sum_by-cons f h hs, sum_by-cons f h (without hs id))
+pub sum-without : (f : Held → ℕ) (hs : List Held) (id : ℕ) (g : Held) → AreHeldApart hs → find_held hs id ≡ Some g → sum_by f (without hs id) + f g ≡ sum_by f hs
+sum-without f [] id g apart is = absurd (none-some g is)
+sum-without f (h ∷ hs) id g apart is =
+    grind (arith, nat_tests, apart.0, not-there hs id, sum-without f hs id g apart.1, sum_by-cons f h hs, sum_by-cons f h (without hs id))
 
 -- ONE CHANGED
 

@@ -23,7 +23,7 @@ kept-other hs rows pages locks seg r s f k lives size locked same = record {
         reserved = k.reserved ∙ sym (pages-with_other rows seg r s lives size);
         locked = k.locked ∙ sym (locked-other_same rows seg r s lives size locked);
         apart = k.apart;
-        few_pages = k.few_pages;
+        all_pages = k.all_pages;
         few_locked = k.few_locked;
       };
   is = joined-other hs rows seg r s f lives same;

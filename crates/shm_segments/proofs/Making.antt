@@ -42,8 +42,8 @@ kept-without hs rows pages locks seg v k looked =
             reserved = omega (arith, fewer, k.reserved);
             locked = omega (arith, looser, k.locked);
             apart = apart-without hs seg k.apart;
-            few_pages = omega (arith, sum-without held_pages hs seg here.g here.is, here.pages, k.few_pages);
-            few_locked = omega (arith, sum-without pages_if_locked hs seg here.g here.is, here.locks, k.few_locked);
+            all_pages = omega (arith, sum-without held_pages hs seg here.g k.apart here.is, here.pages, k.all_pages);
+            few_locked = omega (arith, sum-without pages_if_locked hs seg here.g k.apart here.is, here.locks, k.few_locked);
           };
       is = rw own at (joined-without hs rows i k.agree.few small) ∙ ap (λ n. slice_set (joined_table hs rows) i (record { destroyed = n + 1; segment = None })) sequence;
     }
@@ -84,7 +84,7 @@ kept-relocked hs rows pages locks seg v w f k looked size seen =
             reserved = k.reserved ∙ sym (pages-with_other rows seg r (record r { value = w }) lives size);
             locked = omega (arith, loose, within, alike, k.locked);
             apart = apart-lock hs seg b k.apart;
-            few_pages = omega (arith, pages-lock hs seg b, k.few_pages);
+            all_pages = pages-lock hs seg b ∙ k.all_pages;
             few_locked = omega (arith, locks-lock hs seg b here.g k.apart here.is, here.locks, more b, k.few_locked);
           };
       is = joined-locked hs rows seg r w f lives (seen r.key (bytes_of hs seg));
@@ -111,7 +111,7 @@ kept-made hs rows pages locks i key v k found loose range =
             reserved = omega (arith, more, k.reserved);
             locked = k.locked ∙ sym (locked-with_row rows i key v free loose);
             apart = apart-zeros hs (id_of rows i) (pages_of v.size) (free-new hs rows i k.agree free) k.apart;
-            few_pages = omega (arith, pages-zeros hs (id_of rows i) (pages_of v.size), k.few_pages);
+            all_pages = omega (arith, pages-zeros hs (id_of rows i) (pages_of v.size), k.all_pages);
             few_locked = omega (arith, locks-zeros hs (id_of rows i) (pages_of v.size), k.few_locked);
           };
       is = joined-with_row hs rows i key (pages_of v.size) v k.agree free;

@@ -1,10 +1,7 @@
 -- Marks of frames, and bytes put into a page that is in one: no page moves.
-use Rattle.shm_segments.proofs.Names.{◌≡◌, ◌∷◌, [], ℕ, ap, zero, suc, length, refl, arith, All, Ok, Result, List, Entry, Head, Span, StoreView, held, joined_table, GoesOn, GoesOn-refl, KeepsMemory, LockedPagesStay, IsWhole, SpanFits, FitsPage}
+use Rattle.shm_segments.proofs.Names.{◌≡◌, ◌∷◌, [], ℕ, ap, zero, suc, length, refl, arith, All, Ok, Result, List, Entry, Head, Span, StoreView, held, joined_table, GoesOn, GoesOn-refl, KeepsMemory, LockedPagesStay, IsWhole, SpanFits, FitsPage, PutAt, PageRef, Bool}
 use Rattle.shm_fault.specs.Store.{frame_of}
-use Rattle.shm_fault.specs.Acting.{PutAt}
 use Rattle.shm_fault.specs.Loans.{SetsLent}
-use Rattle.shm_base.specs.declared.paging.PageRef.{PageRef}
-use Rattle.std.specs.Prelude.{Bool}
 use Rattle.shm_segments.proofs.Remembered.{Wrote, wrote, memory-same}
 use Rattle.shm_segments.proofs.Spanning.{spans-fit}
 

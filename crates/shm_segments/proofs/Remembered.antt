@@ -65,7 +65,7 @@ kept-written hs rows pages locks ps new k fit =
       reserved = k.reserved;
       locked = k.locked;
       apart = sums.apart;
-      few_pages = omega (arith, sums.pages, k.few_pages);
+      all_pages = sums.pages ∙ k.all_pages;
       few_locked = omega (arith, sums.locks, k.few_locked);
     }
 

@@ -1,8 +1,6 @@
 -- Changes of a table that keep each segment's number of pages, its lock and its mark.
-use Rattle.shm_segments.proofs.Names.{◌≡◌, ℕ, ◌%◌, List, [], ◌∷◌, ◌∙◌, length, slice_get, Option, Some, None, refl, arith, cases_eq, Segment, Runner, Place, set_in, with_byte, entry_byte_set, stored, change, change_all, with_entry, reserved, locked, attached, attach_all, detached, detach_all, live_in, pages_at, is_orphan, orphan_in, orphan, id_in, nat_tests, common_steps, slice_set, is_some, option_map, pages_held, pages_locked}
+use Rattle.shm_segments.proofs.Names.{◌≡◌, ℕ, ◌%◌, List, [], ◌∷◌, ◌∙◌, length, slice_get, Option, Some, None, refl, arith, cases_eq, Segment, Runner, Place, set_in, with_byte, entry_byte_set, stored, change, change_all, with_entry, reserved, locked, attached, attach_all, detached, detach_all, live_in, pages_at, is_orphan, orphan_in, orphan, id_in, nat_tests, common_steps, slice_set, is_some, option_map, pages_held, pages_locked, live, identifier_at}
 use Rattle.shm_base.specs.State.{Entry}
-use Rattle.shm_segments.specs.Table.{live}
-use Rattle.shm_segments.specs.Orphan.{identifier_at}
 use Rattle.shm_segments.proofs.Entries.{get-set_same, get-set_other, length-slice_set, sum-set_same}
 
 -- two segments with the same number of pages, or none

@@ -1,25 +1,11 @@
 -- The pages after a segment was added, locked or dropped.
-use Rattle.shm_segments.proofs.Names.{List, ◌≡◌, ◌≢◌, ℕ, zero, suc, ◌≤◌, ◌<◌, Bool, true, false, not, length, map, Option, Some, None, is_some, refl, sym, ap, ◌∙◌, arith, inl, inr, ◌⊎◌, cases_eq, StoreView, held, is_held, with_lock, with_seg, find_seg, but, find-without_same, find-without_other, find-zeros_other, not-held, rec-added, IsStoreSound, Frame, nat_tests}
-use Rattle.std.proofs.Common.{◌==◌, eq-eqb, ne_eqb, if◌then◌else◌}
-use Rattle.std.proofs.lemmas.Bool.{false≢true}
+use Rattle.shm_segments.proofs.Names.{common_steps, List, ◌≡◌, ◌≢◌, ℕ, zero, suc, ◌≤◌, ◌<◌, Bool, true, false, not, length, map, Option, Some, None, is_some, refl, sym, ap, ◌∙◌, arith, inl, inr, ◌⊎◌, cases_eq, StoreView, held, is_held, with_lock, with_seg, find_seg, but, find-without_same, find-without_other, find-zeros_other, not-held, rec-added, IsStoreSound, Frame, nat_tests, ◌==◌, eq-eqb, ne_eqb, if◌then◌else◌, false≢true, ◌&&◌, PageRef, owner_of, sizes, total, no_frame, frame_at, Drops, SegRec, no_page, rec_by, rec_in, with_seg_lock, count_by_id, lock_changed, disowned, KeepsId, held-map, other-true, rec-with_other, rec-locked, held-added}
 use Rattle.std.proofs.Math.Path.{fun_ext}
 use Rattle.shm_fault.proofs.Entries.{find-but}
-use Rattle.std.specs.Prelude.{◌&&◌}
-use Rattle.shm_base.specs.declared.paging.PageRef.{PageRef}
-use Rattle.shm_slots.specs.View.{owner_of, sizes}
-use Rattle.shm_slots.specs.Cause.{total}
-use Rattle.shm_frames.specs.Frame.{no_frame, frame_at}
-use Rattle.shm_fault.specs.Dropping.{Drops}
-use Rattle.shm_fault.specs.Segs.{SegRec, no_page, rec_by, rec_in, with_seg_lock, count_by_id}
 use Rattle.shm_fault.specs.declared.page_tables.PageRec.{PageRec}
-use Rattle.shm_fault.specs.Held.{lock_changed}
-use Rattle.shm_fault.specs.Store.{disowned}
 use Rattle.shm_fault.specs.Placing.{Places, bare, places, after_forget, after_forgets, without_segment, frame_freed}
-use Rattle.shm_fault.proofs.Kept.{KeepsId, held-map}
 use Rattle.shm_fault.proofs.Slots.{set-cases}
-use Rattle.shm_fault.proofs.Pages.{other-true, rec-with_other}
 use Rattle.shm_fault.proofs.Placed.{bare-at}
-use Rattle.shm_fault.proofs.Whole.{rec-locked, held-added}
 use Rattle.shm_segments.specs.Staying.{has_ended, is_lost, owner_left, frame_left, EndsNone, MovesNone, Ends}
 
 -- NOTHING HAPPENED
@@ -190,14 +176,7 @@ left-bare ended x = refl
 
 module _ (a b c : StoreView) (p : Ends a b) (q : Ends b c) where
   ended-twice : (id : ℕ) → has_ended a c id ≡ (if has_ended a b id then true else has_ended b c id)
-  ended-twice id = by (is_held (held a) id) (is_held (held b) id) (is_held (held c) id) (p.fewer id) (q.fewer id)
-    where
-      by : (x y z : Bool) → (y ≡ true → x ≡ true) → (z ≡ true → y ≡ true) → x && not z ≡ (if x && not y then true else y && not z)
-      by true true z in₁ in₂ = refl
-      by true false false in₁ in₂ = refl
-      by true false true in₁ in₂ = absurd (false≢true (in₂ refl))
-      by false true z in₁ in₂ = absurd (false≢true (in₁ refl))
-      by false false z in₁ in₂ = refl
+  ended-twice id = grind (arith, common_steps, nat_tests)
 
   lost-twice : (o : Option PageRef) → is_lost (has_ended a c) o ≡ (if is_lost (has_ended a b) o then true else is_lost (has_ended b c) o)
   lost-twice None = refl

@@ -22,7 +22,7 @@ pub record AreSegmentsSound (hs : List Held) (rows : List (Entry Head)) (pages l
   pub reserved : pages ≡ pages_of_rows rows
   pub locked : locks ≡ locked_of_rows rows
   pub apart : AreHeldApart hs
-  pub few_pages : pages_in_store hs ≤ pages
+  pub all_pages : pages_in_store hs ≡ pages
   pub few_locked : locked_pages_in_store hs ≤ locks
 
 -- the same, with the bytes in a sound store

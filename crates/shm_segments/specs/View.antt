@@ -4,7 +4,7 @@ use Rattle.shm_base.specs.Identifier.{Invalid, find_key}
 use Rattle.shm_base.specs.Segments.{reserved}
 use Rattle.shm_base.specs.State.{Segment, Entry, pages_of}
 use Rattle.shm_base.specs.declared.bounds.TheConstants.{MOST_SHMALL, MOST_SHMMAX}
-use Rattle.shm_fault.specs.Held.{Held, find_held, holds_locked}
+use Rattle.shm_fault.specs.Held.{Held, find_held, holds_locked, pages_in_store}
 use Rattle.shm_slots.specs.Cause.{GoesOn}
 use Rattle.shm_slots.specs.View.{swap_slots}
 use Rattle.shm_fault.specs.Store.{StoreView, held}
@@ -25,10 +25,11 @@ as_held id x = record { id = id; locked = x.locked; bytes = x.bytes }
 abbrev pub ShowsTable : List Entry → StoreView → Type 0
 ShowsTable table m = (id : ℕ) → find_held (held m) id ≡ option_map (as_held id) (live table id)
 
--- the store is sound, and shows the table
+-- the store is sound, and shows the table, whose pages it has
 pub record IsTableExact (table : List Entry) (m : StoreView) : Type 0 where
   pub sound : IsStoreSound m
   pub shows : ShowsTable table m
+  pub pages : pages_in_store (held m) ≡ reserved table
 
 -- what every step other than a lock keeps of the store
 pub record KeepsMemory (before after : StoreView) : Type 0 where

@@ -1,5 +1,4 @@
-use Rattle.shm_areas.proofs.Names.{◌≡◌, drop}
-use Rattle.shm_base.specs.Space.{is_reserved, ranges_of}
+use Rattle.shm_areas.proofs.Names.{◌≡◌, drop, is_reserved, ranges_of}
 use Rattle.shm_areas.proofs.beside.is_reserved.Given as goal
 
 abbrev pub invariant-loop-range : goal.invariant-loop-range

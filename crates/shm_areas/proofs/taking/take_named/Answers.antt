@@ -1,5 +1,4 @@
-use Rattle.shm_areas.proofs.Names.{◌∙◌, ◌≤◌, arith, sym, length}
-use Rattle.std.proofs.Common.{length-set}
+use Rattle.shm_areas.proofs.Names.{◌∙◌, ◌≤◌, arith, sym, length, length-set}
 use Rattle.shm_areas.proofs.Origins.{named-goes, other-stays}
 use Rattle.shm_areas.proofs.taking.take_named.Goals.{then-not-is_named, else-not-is_named}
 use Rattle.shm_areas.proofs.taking.take_named.Goals as goal

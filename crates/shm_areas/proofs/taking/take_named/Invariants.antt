@@ -1,6 +1,4 @@
-use Rattle.shm_areas.proofs.Names.{◌≡◌, ◌≤◌, length}
-use Rattle.std.specs.Prelude.{vec_capacity}
-use Rattle.shm_areas.specs.Edit.{taken_between}
+use Rattle.shm_areas.proofs.Names.{◌≡◌, ◌≤◌, length, vec_capacity, taken_between}
 use Rattle.shm_areas.proofs.Origins.{taken_from}
 use Rattle.shm_areas.proofs.taking.take_named.Given as goal
 

@@ -1,7 +1,7 @@
 use Rattle.shm_attach.proofs.Names.{SpaceView, ap, values_of, common_steps, ◌≡◌, refl, sym, arith, Some, slice_get, length-map, inserted, bare, bare_all, IsPlaceFor, Runner}
 use Rattle.shm_attach.proofs.Processes.{pieces_of-inserted, some_if-le}
 use Rattle.shm_attach.proofs.HavingTables.{most_at-value, pieces_at-stored, tables-inserted}
-use Rattle.shm_attach.proofs.Sound.{changed, fit-inserted, sound-changed, counts-small}
+use Rattle.shm_attach.proofs.Sound.{fit-inserted, is_changed, counts-small}
 use Rattle.shm_attach.proofs.changes.put.Goals.{After-index_mut}
 use Rattle.shm_attach.proofs.changes.put.Goals as goal
 
@@ -35,21 +35,12 @@ returns c =
     let w = c.index_mut.result.now in
     let v : Runner = record { life = w.life; space = c.insert.new.self } in
     let at = stands (goal.at.returns c).After-index_mut in
-    let ch = changed es i w v (inserted (bare p)) at refl c.insert.ensures.flat (ap (λ (s : SpaceView). s.most) c.insert.ensures.kept) in
-    record {
-      runners = ch.runners;
-      count = ch.count;
-      others = ch.others;
-      most = ch.most;
-      sound = λ extra s.
-          sound-changed extra es t c.replace.new.self i w v (inserted (bare p)) c.requires.there at refl c.insert.ensures.flat (ap (λ (s : SpaceView). s.most) c.insert.ensures.kept) s
-          (fit-inserted extra es t i (bare p) s c.requires.place c.requires.live)
-          (λ all. rw (ap (λ (s : SpaceView). s.pieces) c.insert.ensures.kept) (tables-inserted t.slab p w.space.pieces c.requires.table all))
-          (record {
-            counts = λ id. omega (arith, c.replace.ensures.counts id, pieces_of-inserted id (bare p) (bare_all w.space.pieces), some_if-le id p.seg 0);
-            tables = c.replace.ensures.tables;
-            tied = c.replace.ensures.tied;
-          });
-      tables = grind (arith, common_steps);
-      translated = c.replace.ensures.translated;
-    }
+    is_changed _ es t c.replace.new.self i w v (inserted (bare p)) c.requires.there at refl c.insert.ensures.flat (ap (λ (s : SpaceView). s.most) c.insert.ensures.kept)
+    (λ extra s. fit-inserted extra es t i (bare p) s c.requires.place c.requires.live)
+    (λ all. rw (ap (λ (s : SpaceView). s.pieces) c.insert.ensures.kept) (tables-inserted t.slab p w.space.pieces c.requires.table all))
+    (λ tied. record {
+      counts = λ id. omega (arith, c.replace.ensures.counts id, pieces_of-inserted id (bare p) (bare_all w.space.pieces), some_if-le id p.seg 0);
+      tables = c.replace.ensures.tables;
+      tied = c.replace.ensures.tied;
+    })
+    (grind (arith, common_steps)) c.replace.ensures.translated

@@ -1,8 +1,7 @@
-use Rattle.shm_attach.proofs.Names.{SpaceView, values_of, ◌≡◌, ℕ, ◌+◌, ◌-◌, ◌≤◌, ◌∙◌, not, ap, sym, subst, refl, arith, eq-eqb, All, List, Option, Some, slice_get, length, common_steps, length-map, without_named, pieces_of, bare_all, stored_named, stored_without, bare_filter, some_if, runners_view, pieces_at, counted, HasTable, Piece, Runner}
-use Rattle.shm_attach.specs.Changes.{attached_at, without_attach, without_segment}
+use Rattle.shm_attach.proofs.Names.{SpaceView, values_of, ◌≡◌, ℕ, ◌+◌, ◌-◌, ◌≤◌, ◌∙◌, not, ap, sym, subst, refl, arith, eq-eqb, All, List, Option, Some, slice_get, length, common_steps, length-map, without_named, pieces_of, bare_all, stored_named, stored_without, bare_filter, some_if, runners_view, pieces_at, counted, HasTable, Piece, Runner, attached_at, without_attach, without_segment}
 use Rattle.shm_attach.proofs.Processes.{pieces_of-without, shorter_filter}
 use Rattle.shm_attach.proofs.HavingTables.{pieces_at-stored, same-set, tables-filter}
-use Rattle.shm_attach.proofs.Sound.{changed, fit-attach, sound-changed, counts-small, counts-own}
+use Rattle.shm_attach.proofs.Sound.{fit-attach, is_changed, counts-small, counts-own}
 use Rattle.shm_attach.proofs.changes.take_attach.Goals.{After-index_mut, After-pieces}
 use Rattle.shm_attach.proofs.changes.take_attach.Goals as goal
 
@@ -30,19 +29,9 @@ returns-in_err-seg-clause-changed c =
     let same : c.take_at.new.self ≡ w.space = c.in_err-seg.ensures.none in
     let none : f (bare_all w.space.pieces) ≡ bare_all w.space.pieces = ap (λ (o : Option ℕ). without_segment c.args.addr o (bare_all w.space.pieces)) (sym c.in_err-seg.ensures.segment) in
     let flat : bare_all v.space.pieces ≡ f (bare_all w.space.pieces) = ap (λ (s : SpaceView). bare_all s.pieces) same ∙ sym none in
-    let ch = changed es i w v f (stands b) refl flat (ap (λ (s : SpaceView). s.most) same) in
-    record {
-      runners = ch.runners;
-      count = ch.count;
-      others = ch.others;
-      most = ch.most;
-      sound = λ extra s.
-          sound-changed extra es t t i w v f c.requires.there (stands b) refl flat (ap (λ (s : SpaceView). s.most) same) s
-          (fit-attach extra es t i c.args.addr s) (λ all. subst (λ (s : SpaceView). All (HasTable t.slab) s.pieces) (sym same) all)
-          (record { counts = λ id. ap (λ qs. counted t id + pieces_of id qs) (sym none); tables = λ p has some. has; tied = s.tied });
-      tables = λ p has some. has;
-      translated = λ at all. all;
-    }
+    is_changed _ es t t i w v f c.requires.there (stands b) refl flat (ap (λ (s : SpaceView). s.most) same) (λ extra s. fit-attach extra es t i c.args.addr s)
+    (λ all. subst (λ (s : SpaceView). All (HasTable t.slab) s.pieces) (sym same) all)
+    (λ tied. record { counts = λ id. ap (λ qs. counted t id + pieces_of id qs) (sym none); tables = λ p has some. has; tied = tied }) (λ p has some. has) (λ at all. all)
 
 pub returns-in_err-seg-clause-none : goal.returns-in_err-seg-clause-none
 returns-in_err-seg-clause-none c =
@@ -100,22 +89,12 @@ returns-clause-changed c =
     let b = goal.at.returns-clause-changed c in
     let left : without_named c.args.addr seg (bare_all w.space.pieces) ≡ f (bare_all w.space.pieces) = ap (λ (o : Option ℕ). without_segment c.args.addr o (bare_all w.space.pieces)) c.in_ok-seg.ensures.segment in
     let flat : bare_all v.space.pieces ≡ f (bare_all w.space.pieces) = c.in_ok-seg.ensures.flat ∙ left in
-    let most = ap (λ (s : SpaceView). s.most) c.in_ok-seg.ensures.kept in
-    let ch = changed es i w v f (stands b.After-index_mut) refl flat most in
-    record {
-      runners = ch.runners;
-      count = ch.count;
-      others = ch.others;
-      most = ch.most;
-      sound = λ extra s.
-          sound-changed extra es t c.release.new.self i w v f c.requires.there (stands b.After-index_mut) refl flat most s
-          (fit-attach extra es t i c.args.addr s)
-          (λ all. rw (ap (λ (s : SpaceView). s.pieces) c.in_ok-seg.ensures.kept) (tables-filter t.slab (λ (p : Piece). not (stored_named c.args.addr seg p)) w.space.pieces all))
-          (record {
-            counts = λ id. omega (arith, named b.After-pieces id, c.release.ensures.counts id, ap (pieces_of id) left);
-            tables = c.release.ensures.tables;
-            tied = c.release.ensures.tied;
-          });
+    is_changed _ es t c.release.new.self i w v f c.requires.there (stands b.After-index_mut) refl flat (ap (λ (s : SpaceView). s.most) c.in_ok-seg.ensures.kept)
+    (λ extra s. fit-attach extra es t i c.args.addr s)
+    (λ all. rw (ap (λ (s : SpaceView). s.pieces) c.in_ok-seg.ensures.kept) (tables-filter t.slab (λ (p : Piece). not (stored_named c.args.addr seg p)) w.space.pieces all))
+    (λ tied. record {
+      counts = λ id. omega (arith, named b.After-pieces id, c.release.ensures.counts id, ap (pieces_of id) left);
       tables = c.release.ensures.tables;
-      translated = c.release.ensures.translated;
-    }
+      tied = c.release.ensures.tied;
+    })
+    c.release.ensures.tables c.release.ensures.translated

@@ -1,7 +1,7 @@
 use Rattle.shm_attach.proofs.Names.{SpaceView, values_of, ◌≡◌, ℕ, ◌+◌, ◌≤◌, ◌∙◌, ap, sym, refl, arith, List, Some, slice_get, length, filter, common_steps, All, meets, cut, pieces_of, bare, bare_all, arranged_filter, runners_view, pieces_at, MOST_PIECES, counted, stored_at, HasTable, Piece, Runner}
 use Rattle.shm_attach.proofs.Processes.{bare-met, cut-unmet, met-meets, pieces_of-filter, pieces_of-cut_met}
 use Rattle.shm_attach.proofs.HavingTables.{most_at-value, pieces_at-stored, stored_at-value, tables-cut, tables-filter}
-use Rattle.shm_attach.proofs.Sound.{changed, fit-cut, sound-changed, counts-small, counts-own}
+use Rattle.shm_attach.proofs.Sound.{fit-cut, is_changed, counts-small, counts-own}
 use Rattle.shm_attach.proofs.changes.take_range.Goals.{After-index_mut, After-met-met}
 use Rattle.shm_attach.proofs.changes.take_range.Goals as goal
 
@@ -59,18 +59,8 @@ returns-then-is_empty c =
     let t = c.args.tables.now in
     let f = cut c.args.from c.args.to in
     let none : f (bare_all w.space.pieces) ≡ bare_all w.space.pieces = cut-unmet c.args.from c.args.to w.space.pieces (grind (arith, common_steps)) in
-    let ch = changed es i w w f (stands b.After-index_mut) refl (sym none) refl in
-    record {
-      runners = ch.runners;
-      count = ch.count;
-      others = ch.others;
-      most = ch.most;
-      sound = λ extra s.
-          sound-changed extra es t t i w w f c.requires.there (stands b.After-index_mut) refl (sym none) refl s (fit-cut extra es t i c.args.from c.args.to s c.requires.range (few b.After-met-met)) (λ all. all)
-          (record { counts = λ id. ap (λ qs. counted t id + pieces_of id qs) (sym none); tables = λ p has some. has; tied = s.tied });
-      tables = λ p has some. has;
-      translated = λ at all. all;
-    }
+    is_changed _ es t t i w w f c.requires.there (stands b.After-index_mut) refl (sym none) refl (λ extra s. fit-cut extra es t i c.args.from c.args.to s c.requires.range (few b.After-met-met)) (λ all. all)
+    (λ tied. record { counts = λ id. ap (λ qs. counted t id + pieces_of id qs) (sym none); tables = λ p has some. has; tied = tied }) (λ p has some. has) (λ at all. all)
 
 -- the new counts of the met pieces are those of all pieces
 cut_counts : (from to a b id : ℕ) (met own : List Piece) → bare_all met ≡ filter (meets from to) (bare_all own)
@@ -89,18 +79,13 @@ returns c =
     let w = c.index_mut.result.now in
     let v : Runner = record { life = w.life; space = c.cut.new.self } in
     let b = goal.at.returns c in
-    let ch = changed es i w v (cut from to) (stands b.After-index_mut) refl c.cut.ensures.flat (ap (λ (s : SpaceView). s.most) c.cut.ensures.kept) in
     let same = ap bare_all c.met-met.ensures.value ∙ bare-met from to w.space.pieces in
-    record {
-      runners = ch.runners;
-      count = ch.count;
-      others = ch.others;
-      most = ch.most;
-      sound = λ extra s.
-          let counts = λ (id : ℕ). cut_counts from to (counted t id) (counted c.recount.new.tables id) id c.met-met.result.now w.space.pieces same (c.recount.ensures.counts id) in
-          sound-changed extra es t c.recount.new.tables i w v (cut from to) c.requires.there (stands b.After-index_mut) refl c.cut.ensures.flat (ap (λ (s : SpaceView). s.most) c.cut.ensures.kept) s
-          (fit-cut extra es t i from to s c.requires.range (few b.After-met-met)) (λ all. rw (ap (λ (s : SpaceView). s.pieces) c.cut.ensures.kept) (tables-cut t.slab from to w.space.pieces all))
-          (record { counts = counts; tables = c.recount.ensures.tables; tied = c.recount.ensures.tied });
+    is_changed _ es t c.recount.new.tables i w v (cut from to) c.requires.there (stands b.After-index_mut) refl c.cut.ensures.flat (ap (λ (s : SpaceView). s.most) c.cut.ensures.kept)
+    (λ extra s. fit-cut extra es t i from to s c.requires.range (few b.After-met-met))
+    (λ all. rw (ap (λ (s : SpaceView). s.pieces) c.cut.ensures.kept) (tables-cut t.slab from to w.space.pieces all))
+    (λ tied. record {
+      counts = λ id. cut_counts from to (counted t id) (counted c.recount.new.tables id) id c.met-met.result.now w.space.pieces same (c.recount.ensures.counts id);
       tables = c.recount.ensures.tables;
-      translated = c.recount.ensures.translated;
-    }
+      tied = c.recount.ensures.tied;
+    })
+    c.recount.ensures.tables c.recount.ensures.translated

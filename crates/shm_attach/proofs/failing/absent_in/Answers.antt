@@ -1,6 +1,4 @@
-use Rattle.shm_attach.proofs.Names.{◌≡◌, ◌∙◌, ◌+◌, ◌-◌, ◌/◌, ◌%◌, ◌<◌, true, false, refl, sym, arith, common_steps, bare, bare_all, IsCovering}
-use Rattle.std.specs.Prelude.{is_some}
-use Rattle.shm_base.specs.Access.{place_by}
+use Rattle.shm_attach.proofs.Names.{◌≡◌, ◌∙◌, ◌+◌, ◌-◌, ◌/◌, ◌%◌, ◌<◌, true, false, refl, sym, arith, common_steps, bare, bare_all, IsCovering, is_some, place_by}
 use Rattle.shm_attach.proofs.Absent.{absent-none, absent-here, absent-served, same_page, own-frame}
 use Rattle.shm_attach.proofs.HavingTables.{key-held, table-of}
 use Rattle.shm_attach.proofs.failing.absent_in.Goals as goal

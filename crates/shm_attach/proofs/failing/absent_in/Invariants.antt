@@ -1,7 +1,4 @@
-use Rattle.std.proofs.Common.{◌≡◌, ℕ, Option}
-use Rattle.shm_areas.specs.Arranged.{bare_all}
-use Rattle.shm_attach.specs.Failing.{first_absent}
-use Rattle.shm_attach.specs.Table.{AllTrue}
+use Rattle.shm_attach.proofs.Names.{◌≡◌, ℕ, Option, bare_all, first_absent, AllTrue}
 use Rattle.shm_attach.proofs.failing.absent_in.Given as goal
 
 -- the first address without a frame is among the remaining ones

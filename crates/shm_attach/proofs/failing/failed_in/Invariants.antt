@@ -1,6 +1,4 @@
-use Rattle.std.proofs.Common.{◌≡◌}
-use Rattle.shm_areas.specs.Arranged.{bare_all}
-use Rattle.shm_attach.specs.Failing.{first_failed}
+use Rattle.shm_attach.proofs.Names.{◌≡◌, bare_all, first_failed}
 use Rattle.shm_attach.proofs.failing.failed_in.Given as goal
 
 -- the first address that fails is among the remaining ones

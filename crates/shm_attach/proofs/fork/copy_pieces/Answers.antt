@@ -1,7 +1,7 @@
-use Rattle.shm_attach.proofs.Names.{length-take, ◌≡◌, ◌+◌, ◌<◌, ◌∙◌, ap, arith, List, length, get_or, take, common_steps, length-map, lowest_address, inserted, bare, nothing, runner_view, runners_view, with_pieces_at, pieces_at, stored_at, no_reservations}
+use Rattle.shm_attach.proofs.Names.{length-take, ◌≡◌, ◌+◌, ◌<◌, ◌∙◌, ap, arith, List, length, get_or, take, common_steps, length-map, lowest_address, inserted, bare, nothing, runner_view, runners_view, with_pieces_at, pieces_at, stored_at, no_reservations, bare-get_or}
 use Rattle.shm_base.specs.State.{Piece}
 use Rattle.shm_attach.proofs.HavingTables.{pieces_at-bare}
-use Rattle.shm_attach.proofs.Keeping.{with_pieces_at-same, with_pieces_at-twice, pieces_at-changed, bare-get_or, inserted_next, place_next}
+use Rattle.shm_attach.proofs.Keeping.{with_pieces_at-same, with_pieces_at-twice, pieces_at-changed, inserted_next, place_next}
 use Rattle.shm_attach.proofs.fork.copy_pieces.Goals.{Start, After-pieces}
 use Rattle.shm_attach.proofs.fork.copy_pieces.Goals as goal
 

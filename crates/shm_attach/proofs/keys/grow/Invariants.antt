@@ -1,5 +1,4 @@
-use Rattle.shm_attach.proofs.Names.{◌≡◌, ℕ, length}
-use Rattle.shm_attach.specs.Keys.{entry_at}
+use Rattle.shm_attach.proofs.Names.{◌≡◌, ℕ, length, entry_at}
 use Rattle.shm_attach.proofs.keys.grow.Given as goal
 
 abbrev pub invariant-loop : goal.invariant-loop

@@ -1,14 +1,9 @@
-use Rattle.shm_attach.proofs.Names.{Arranged, lowest_address, true≢false, most_at, ◌≡◌, ◌∙◌, ◌<◌, ◌+◌, length-map, option_to_list, ℕ, Option, bare_all, true, false, List, length, Some, ap, sym, subst, arith, common_steps, All, get, covering, cut, bare, runners_view, pieces_at, stored_at, size_in, HasTable}
+use Rattle.shm_attach.proofs.Names.{true≢false, most_at, ◌≡◌, ◌∙◌, ◌<◌, ◌+◌, length-map, option_to_list, ℕ, Option, bare_all, true, false, List, length, Some, ap, sym, subst, arith, common_steps, All, get, covering, cut, bare, runners_view, pieces_at, stored_at, size_in, HasTable, end_of, inserted, has_protection, low_end, high_end, part_between, turned, Stored, AreNow, noted, split_in}
 use Rattle.shm_base.specs.State.{Piece}
-use Rattle.shm_base.specs.Access.{end_of}
-use Rattle.shm_base.specs.Space.{inserted}
-use Rattle.shm_base.specs.Mapping.{has_protection, low_end, high_end, part_between, turned}
-use Rattle.shm_areas.specs.declared.piece.Piece.{Piece as Stored}
-use Rattle.shm_attach.specs.Mapping.{AreNow, KeepsOwn, noted, split_in}
-use Rattle.shm_attach.proofs.Growing.{never-fewer, length-turned, grows}
+use Rattle.shm_attach.proofs.Growing.{grows}
 use Rattle.shm_attach.proofs.HavingTables.{pieces_at-bare, table-of}
-use Rattle.shm_attach.proofs.Protecting.{replaced_by, IsTurnable, protects-refused, protects-turned, IsLow, IsHigh, now-same, pieces-now, low_is, high_is, sized_by, stretch_of, part_replaces}
-use Rattle.shm_attach.proofs.Renewed.{own-same, turned-cut, turned-named, turned-has}
+use Rattle.shm_attach.proofs.Protecting.{replaced_by, IsTurnable, protects-refused, protects-turned, IsTurn, now-same, pieces-now, sized_by, turn_is, stretch_of, part_replaces}
+use Rattle.shm_attach.proofs.Turned.{IsHigh, IsLow}
 use Rattle.shm_attach.proofs.mapping.protect_piece.Goals.{Start, After-high_end-high, else-writable-via-then-writable+else-not-piece, else-writable-via-else-writable}
 use Rattle.shm_attach.proofs.mapping.protect_piece.Goals as goal
 
@@ -29,18 +24,6 @@ returns-then-piece-writable-clause-now c = same (goal.at.returns-then-piece-writ
 pub returns-then-left-most-clause-now : goal.returns-then-left-most-clause-now
 returns-then-left-most-clause-now c = same (goal.at.returns-then-left-most-clause-now c).Start
 
-pub returns-in_default-clause-own : goal.returns-in_default-clause-own
-returns-in_default-clause-own c = own-same (pieces_at (runners_view c.args.processes.now.entries) c.args.index)
-
-pub returns-then-not-piece-clause-own : goal.returns-then-not-piece-clause-own
-returns-then-not-piece-clause-own c = own-same (pieces_at (runners_view c.args.processes.now.entries) c.args.index)
-
-pub returns-then-piece-writable-clause-own : goal.returns-then-piece-writable-clause-own
-returns-then-piece-writable-clause-own c = own-same (pieces_at (runners_view c.args.processes.now.entries) c.args.index)
-
-pub returns-then-left-most-clause-own : goal.returns-then-left-most-clause-own
-returns-then-left-most-clause-own c = own-same (pieces_at (runners_view c.args.processes.now.entries) c.args.index)
-
 -- WHERE A PART CHANGES
 
 found : (c : After-high_end-high) → covering c.args.at (pieces_at (runners_view c.args.processes.now.entries) c.args.index) ≡ Some (bare c.in-Some.piece)
@@ -53,20 +36,27 @@ table c =
     let own : All (HasTable t) ps = rw c.space_at-space.ensures.stored (c.requires.process.sound.tables c.args.index) in
     table-of t ps c.in-Some.piece own c.in-Some.ensures.among
 
-low : (c : After-high_end-high) → IsLow (bare c.in-Some.piece) c.args.at c.low_end-low.result
-low c =
-    let ps = pieces_at (runners_view c.args.processes.now.entries) c.args.index in
-    rw (c.low_end-low.ensures, c.space_at-space.ensures.flat)
-    (low_is c.args.writable c.args.at c.args.to (bare c.in-Some.piece) ps (c.requires.process.sound.exact.arranged c.args.index) (found c) c.requires.range.from_page)
-
-high : (c : After-high_end-high) → IsHigh (bare c.in-Some.piece) (size_in (get c.args.tables.now.slab c.in-Some.piece.key)) c.args.at c.high_end-high.result
-high c =
+turn : (c : After-high_end-high)
+    → IsTurn c.args.writable c.args.at c.args.to (bare c.in-Some.piece) (pieces_at (runners_view c.args.processes.now.entries) c.args.index) (size_in (get c.args.tables.now.slab c.in-Some.piece.key))
+turn c =
     let t = c.args.tables.now in
     let p = c.in-Some.piece in
-    let ps = pieces_at (runners_view c.args.processes.now.entries) c.args.index in
-    let sized = rw (← pieces_at-bare c.args.processes.now.entries c.args.index) at (sized_by t p (stored_at c.args.processes.now.entries c.args.index) c.requires.process.sound.tied (table c) (c.requires.process.sound.tables c.args.index)) in
-    rw (c.high_end-high.ensures, c.space_at-space.ensures.flat)
-    (high_is c.args.writable c.args.at c.args.to (bare p) ps (size_in (get t.slab p.key)) (c.requires.process.sound.exact.arranged c.args.index) (found c) c.requires.range.to_page c.requires.range.order sized)
+    let es = c.args.processes.now.entries in
+    let sized = rw (← pieces_at-bare es c.args.index) at (sized_by t p (stored_at es c.args.index) c.requires.process.sound.tied (table c) (c.requires.process.sound.tables c.args.index)) in
+    turn_is c.args.writable c.args.at c.args.to (bare p) (pieces_at (runners_view es) c.args.index) (size_in (get t.slab p.key)) (c.requires.process.sound.exact.arranged c.args.index) (found c)
+    c.requires.range.from_page c.requires.range.to_page c.requires.range.order sized
+
+low-value : (c : After-high_end-high) → c.low_end-low.result ≡ low_end c.args.writable c.args.at c.args.to (bare c.in-Some.piece) (pieces_at (runners_view c.args.processes.now.entries) c.args.index)
+low-value c = c.low_end-low.ensures ∙ ap (low_end c.args.writable c.args.at c.args.to (bare c.in-Some.piece)) c.space_at-space.ensures.flat
+
+high-value : (c : After-high_end-high) → c.high_end-high.result ≡ high_end c.args.writable c.args.at c.args.to (bare c.in-Some.piece) (pieces_at (runners_view c.args.processes.now.entries) c.args.index)
+high-value c = c.high_end-high.ensures ∙ ap (high_end c.args.writable c.args.at c.args.to (bare c.in-Some.piece)) c.space_at-space.ensures.flat
+
+low : (c : After-high_end-high) → IsLow (bare c.in-Some.piece) c.args.at c.low_end-low.result
+low c = rw (low-value c) (turn c).low
+
+high : (c : After-high_end-high) → IsHigh (bare c.in-Some.piece) (size_in (get c.args.tables.now.slab c.in-Some.piece.key)) c.args.at c.high_end-high.result
+high c = rw (high-value c) (turn c).high
 
 pub part_between-part-requires-clause-stretch : goal.part_between-part-requires-clause-stretch
 part_between-part-requires-clause-stretch c =
@@ -93,26 +83,6 @@ turnable c =
     let lacks : has_protection c.args.writable (bare c.in-Some.piece) ≡ false = grind (arith, common_steps) in
     record { found = found c; may = may; lacks = lacks }
 
-low-value : (c : After-high_end-high) → c.low_end-low.result ≡ low_end c.args.writable c.args.at c.args.to (bare c.in-Some.piece) (pieces_at (runners_view c.args.processes.now.entries) c.args.index)
-low-value c = c.low_end-low.ensures ∙ ap (low_end c.args.writable c.args.at c.args.to (bare c.in-Some.piece)) c.space_at-space.ensures.flat
-
-high-value : (c : After-high_end-high) → c.high_end-high.result ≡ high_end c.args.writable c.args.at c.args.to (bare c.in-Some.piece) (pieces_at (runners_view c.args.processes.now.entries) c.args.index)
-high-value c = c.high_end-high.ensures ∙ ap (high_end c.args.writable c.args.at c.args.to (bare c.in-Some.piece)) c.space_at-space.ensures.flat
-
-arranged : (c : After-high_end-high) → Arranged lowest_address (pieces_at (runners_view c.args.processes.now.entries) c.args.index)
-arranged c = c.requires.process.sound.exact.arranged c.args.index
-
--- the pieces after the part is in, and how many there are
-in_its_place : (c : After-high_end-high) → let ps = pieces_at (runners_view c.args.processes.now.entries) c.args.index in let p = bare c.in-Some.piece in
-    turned c.args.writable c.args.at c.args.to p ps
-    ≡ inserted (part_between c.args.writable (low_end c.args.writable c.args.at c.args.to p ps) (high_end c.args.writable c.args.at c.args.to p ps) p)
-    (cut (low_end c.args.writable c.args.at c.args.to p ps) (high_end c.args.writable c.args.at c.args.to p ps) ps)
-in_its_place c = turned-cut c.args.writable c.args.at c.args.to (bare c.in-Some.piece) (pieces_at (runners_view c.args.processes.now.entries) c.args.index) (arranged c) (found c) c.requires.range.order
-
-longer : (c : After-high_end-high) → let ps = pieces_at (runners_view c.args.processes.now.entries) c.args.index in let p = bare c.in-Some.piece in
-    length (turned c.args.writable c.args.at c.args.to p ps) ≡ length (cut (low_end c.args.writable c.args.at c.args.to p ps) (high_end c.args.writable c.args.at c.args.to p ps) ps) + 1
-longer c = length-turned c.args.writable c.args.at c.args.to (bare c.in-Some.piece) (pieces_at (runners_view c.args.processes.now.entries) c.args.index) (arranged c) (found c) c.requires.range.order
-
 pub returns-then-left-most-clause-protects : goal.returns-then-left-most-clause-protects
 returns-then-left-most-clause-protects c = λ next.
     let es = c.args.processes.now.entries in
@@ -121,7 +91,7 @@ returns-then-left-most-clause-protects c = λ next.
     let count = rw (low-value b, high-value b, c.space_at-space.ensures.flat) at c.count_outside-left.ensures in
     let most : c.most.result ≡ most_at es i = c.most.ensures ∙ c.space_at-space.ensures.most in
     protects-refused (most_at es i) c.args.writable c.args.at c.args.to (bare c.in-Some.piece) (pieces_at (runners_view es) i) next (turnable b)
-    (omega (arith, count, most, c.if-left-most.true, longer b))
+    (omega (arith, count, most, c.if-left-most.true, (turn b).longer))
 
 pub returns-clause-now : goal.returns-clause-now
 returns-clause-now c =
@@ -143,19 +113,7 @@ left c q flat =
     replaced_by p (bare q) w (size_in (get t.slab c.in-Some.piece.key)) c.args.at c.low_end-low.result end ps flat (low c) (high c)
     ∙ ap (λ n. inserted (part_between w n end p) (cut n end ps)) (low-value c)
     ∙ ap (λ n. inserted (part_between w (low_end w c.args.at c.args.to p ps) n p) (cut (low_end w c.args.at c.args.to p ps) n ps)) (high-value c)
-    ∙ sym (in_its_place c)
-
-pub returns-clause-own : goal.returns-clause-own
-returns-clause-own c =
-    let ps = pieces_at (runners_view c.args.processes.now.entries) c.args.index in
-    let p = bare c.in-Some.piece in
-    let b = (goal.at.returns-clause-own c).After-high_end-high in
-    let now = pieces-now c.args.processes.now.entries c.renew.new.processes.entries c.args.tables.now c.renew.new.tables c.args.index _ c.requires.process.there c.renew.ensures in
-    subst (KeepsOwn ps) (sym (now ∙ left b c.part_between-part.result c.part_between-part.ensures.flat ∙ in_its_place b))
-    record {
-      named = turned-named c.args.writable c.args.at c.args.to p ps (arranged b) (found b) c.requires.range.order;
-      pages = λ seg page all. turned-has seg page c.args.writable c.args.at c.args.to p ps (arranged b) (found b) c.requires.range.order c.requires.range.from_page c.requires.range.to_page all;
-    }
+    ∙ sym (turn c).replaced
 
 -- the segment that is named if the piece is split
 split : (c : After-high_end-high) (left : ℕ) (o : Option ℕ) → left ≡ length (cut c.low_end-low.result c.high_end-high.result (bare_all c.space_at-space.result.now.pieces))
@@ -169,7 +127,7 @@ split c left o count named =
     let all = turned c.args.writable c.args.at c.args.to p ps in
     let cuts = rw (low-value c, high-value c, c.space_at-space.ensures.flat) at count in
     let before : length c.space_at-space.result.now.pieces ≡ length ps = sym (length-map c.space_at-space.result.now.pieces bare) ∙ ap length c.space_at-space.ensures.flat in
-    let after : left + 1 ≡ length all = omega (arith, cuts, longer c) in
+    let after : left + 1 ≡ length all = omega (arith, cuts, (turn c).longer) in
     named ∙ ap (λ n. split_in p.seg n (left + 1)) before ∙ ap (λ n. split_in p.seg (length ps) n) after
 
 pub returns-clause-protects : goal.returns-clause-protects
@@ -188,7 +146,7 @@ returns-clause-protects c = λ next.
     let most : c.most.result ≡ most_at es i = c.most.ensures ∙ c.space_at-space.ensures.most in
     let now = pieces-now es fs t c.renew.new.tables i _ c.requires.process.there c.renew.ensures in
     let named = split b c.count_outside-left.result c.split_by-split.result c.count_outside-left.ensures c.split_by-split.ensures in
-    protects-turned (most_at es i) w c.args.at c.args.to p ps next (turnable b) (omega (arith, count, most, c.if-left-most.false, longer b))
+    protects-turned (most_at es i) w c.args.at c.args.to p ps next (turnable b) (omega (arith, count, most, c.if-left-most.false, (turn b).longer))
     ∙ ap (λ n. noted (split_in p.seg (length ps) (length (turned w c.args.at c.args.to p ps))) (next n (turned w c.args.at c.args.to p ps))) (sym c.end-2.ensures)
     ∙ ap (λ qs. noted (split_in p.seg (length ps) (length (turned w c.args.at c.args.to p ps))) (next c.end-2.result qs)) (sym (now ∙ left b c.part_between-part.result c.part_between-part.ensures.flat))
     ∙ ap (λ ids. noted ids (next c.end-2.result (pieces_at (runners_view fs) i))) (sym named)
@@ -210,5 +168,5 @@ returns-clause-grows c =
     let most : c.most.result ≡ most_at es i = c.most.ensures ∙ c.space_at-space.ensures.most in
     let named = split b c.count_outside-left.result c.split_by-split.result c.count_outside-left.ensures c.split_by-split.ensures in
     grows es fs i p.seg c.split_by-split.result (turned w c.args.at c.args.to p ps) named now
-    (never-fewer w c.args.at c.args.to p ps (arranged b) (found b) c.requires.range.order)
-    (omega (arith, count, most, c.if-left-most.false, longer b))
+    (turn b).more
+    (omega (arith, count, most, c.if-left-most.false, (turn b).longer))

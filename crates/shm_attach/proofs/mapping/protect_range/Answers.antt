@@ -1,10 +1,5 @@
-use Rattle.shm_attach.proofs.Names.{◌≡◌, ◌∙◌, ◌+◌, ◌-◌, ◌/◌, ◌≤◌, length, option_to_list, append-nil, List, ℕ, Some, refl, ap, sym, subst, arith, LostView, runners_view, pieces_at, most_at}
-use Rattle.std.proofs.Common.{length-append}
-use Rattle.std.proofs.lemmas.Result.{err_from_is_err_and}
+use Rattle.shm_attach.proofs.Names.{◌≡◌, ◌∙◌, ◌+◌, ◌-◌, ◌/◌, ◌≤◌, length, option_to_list, append-nil, List, ℕ, Some, refl, ap, sym, subst, arith, LostView, runners_view, pieces_at, most_at, length-append, err_from_is_err_and, Protected, ended, protects_from, AreNow, protected_between, continued, noted, refusal_in}
 use Rattle.shm_base.specs.State.{Piece}
-use Rattle.shm_base.specs.Mapping.{Protected, ended, protects_from}
-use Rattle.shm_attach.specs.Mapping.{AreNow, KeepsOwn, protected_between, continued, noted, refusal_in}
-use Rattle.shm_attach.proofs.Renewed.{own-same, own-then}
 use Rattle.shm_attach.proofs.Growing.{noted-twice, room-left}
 use Rattle.shm_attach.proofs.Protecting.{now-same, now-then, lives-now, protects-next, protects-done}
 use Rattle.shm_attach.proofs.mapping.protect_range.Goals.{After-protect_piece, In_ok-passed, After-loop-at}
@@ -17,7 +12,6 @@ loop-at-init c =
       enough = omega (arith, c.requires.range.from_page, c.requires.range.to_page, c.requires.range.order);
       page = c.requires.range.from_page;
       whole = ap (λ (ids : List ℕ). noted ids (protected_between c.args.processes.now.entries c.args.index c.args.writable c.args.from c.args.to)) c.requires.none;
-      own = own-same (pieces_at (runners_view c.args.processes.now.entries) c.args.index);
       now = now-same c.args.processes.now.entries c.args.tables.now c.args.index c.requires.process.there c.requires.process.sound;
       few = omega (arith, ap length c.requires.none);
       room = omega (arith, ap length c.requires.none);
@@ -82,7 +76,6 @@ loop-at-preserved c =
           ap (λ (l : LostView). noted l.segments behind) c.add.ensures
           ∙ sym (noted-twice c.loop-at.lost.segments (option_to_list split) behind)
           ∙ sym (rw c.in_ok-passed.was at (whole b));
-      own = own-then _ _ _ kept.own c.protect_piece.ensures.own;
       now = now b;
       few = omega (arith, added, more, kept.few, c.in_ok-passed.ensures.grows.more);
       room = omega (arith, added, more, ap (λ (l : LostView). l.most) c.add.ensures, fits (goal.at.loop-at-preserved c).In_ok-passed);
@@ -104,11 +97,6 @@ returns-in_err-passed-clause-now c =
     subst (λ (ps : List Piece). AreNow c.args.processes.now.entries c.protect_piece.new.processes.entries c.args.tables.now c.protect_piece.new.tables c.args.index ps)
     (ap (λ (x : Protected). x.pieces) (sym stop)) (now b)
 
-pub returns-in_err-passed-clause-own : goal.returns-in_err-passed-clause-own
-returns-in_err-passed-clause-own c =
-    let stop = rw c.in_err-passed.was at (whole (goal.at.returns-in_err-passed-clause-own c).After-protect_piece) in
-    subst (KeepsOwn (pieces_at (runners_view c.args.processes.now.entries) c.args.index)) (ap (λ (x : Protected). x.pieces) (sym stop)) (own-then _ _ _ c.loop-at.invariant.own c.protect_piece.ensures.own)
-
 pub returns-in_err-passed-clause-split : goal.returns-in_err-passed-clause-split
 returns-in_err-passed-clause-split c =
     let stop = rw c.in_err-passed.was at (whole (goal.at.returns-in_err-passed-clause-split c).After-protect_piece) in
@@ -127,10 +115,6 @@ done c =
 
 pub returns-clause-refusal : goal.returns-clause-refusal
 returns-clause-refusal c = ap (λ (x : Protected). x.refusal) (done (goal.at.returns-clause-refusal c).After-loop-at)
-
-pub returns-clause-own : goal.returns-clause-own
-returns-clause-own c =
-    subst (KeepsOwn (pieces_at (runners_view c.args.processes.now.entries) c.args.index)) (ap (λ (x : Protected). x.pieces) (done (goal.at.returns-clause-own c).After-loop-at)) c.loop-at.invariant.own
 
 pub returns-clause-split : goal.returns-clause-split
 returns-clause-split c =

@@ -1,6 +1,4 @@
-use Rattle.shm_attach.proofs.Names.{◌≡◌, ℕ, ◌+◌, ◌-◌, ◌*◌, ◌%◌, ◌≤◌, length, runners_view, pieces_at, most_at}
-use Rattle.shm_base.specs.Mapping.{protects_from}
-use Rattle.shm_attach.specs.Mapping.{protected_between, AreNow, KeepsOwn, noted}
+use Rattle.shm_attach.proofs.Names.{◌≡◌, ℕ, ◌+◌, ◌-◌, ◌*◌, ◌%◌, ◌≤◌, length, runners_view, pieces_at, most_at, protects_from, protected_between, AreNow, noted}
 use Rattle.shm_attach.proofs.mapping.protect_range.Given as goal
 
 -- enough pages are left, and their result gives the final one
@@ -12,7 +10,6 @@ invariant-loop-at l =
       page : l.at % 4096 ≡ 0;
       whole : noted l.lost.segments (protects_from left (most_at l.initial.processes.entries l.index) l.writable l.to l.at (pieces_at (runners_view l.processes.entries) l.index))
           ≡ protected_between l.initial.processes.entries l.index l.writable l.from l.to;
-      own : KeepsOwn (pieces_at (runners_view l.initial.processes.entries) l.index) (pieces_at (runners_view l.processes.entries) l.index);
       now : AreNow l.initial.processes.entries l.processes.entries l.initial.tables l.tables l.index (pieces_at (runners_view l.processes.entries) l.index);
       few : length l.lost.segments ≤ length (pieces_at (runners_view l.processes.entries) l.index);
       room : length l.lost.segments ≤ l.lost.most;

@@ -1,7 +1,4 @@
-use Rattle.std.proofs.Common.{◌≡◌, ℕ, if◌then◌else◌, not, nat_lt, length}
-use Rattle.shm_base.specs.Numbers.{is_taken}
-use Rattle.shm_ids.specs.Sound.{is_open}
-use Rattle.shm_ids.specs.Table.{entry_at}
+use Rattle.shm_ids.proofs.Names.{◌≡◌, ℕ, if◌then◌else◌, not, nat_lt, length, is_taken, is_open, entry_at}
 use Rattle.shm_ids.proofs.copying.give_open.Given as goal
 
 -- the free ones of the indexes below this one were returned

@@ -1,5 +1,4 @@
-use Rattle.std.proofs.Common.{◌≡◌, ◌≤◌, ℕ, nat_lt}
-use Rattle.shm_base.specs.Numbers.{is_taken}
+use Rattle.shm_ids.proofs.Names.{◌≡◌, ◌≤◌, ℕ, nat_lt, is_taken}
 use Rattle.shm_ids.proofs.copying.taken_below.Given as goal
 
 abbrev pub invariant-loop-number : goal.invariant-loop-number

@@ -1,5 +1,4 @@
-use Rattle.shm_life.proofs.Names.{List, sym, ap, ◌∙◌, slice_index_or, false, Entry, change, attached, SegmentsView, view_of}
-use Rattle.shm_areas.specs.declared.piece.Piece.{Piece as Stored}
+use Rattle.shm_life.proofs.Names.{List, sym, ap, ◌∙◌, slice_index_or, false, Entry, change, attached, SegmentsView, view_of, Stored}
 use Rattle.shm_life.proofs.Inheriting.{pieces-more, pieces-live}
 use Rattle.shm_life.proofs.fork.note_pieces.Goals as goal
 

@@ -1,5 +1,4 @@
-use Rattle.shm_life.proofs.Names.{◌≡◌, take, attach_all}
-use Rattle.shm_life.specs.Inherited.{segments_in}
+use Rattle.shm_life.proofs.Names.{◌≡◌, take, attach_all, segments_in}
 use Rattle.shm_life.proofs.fork.note_pieces.Given as goal
 
 abbrev pub invariant-loop-piece : goal.invariant-loop-piece

@@ -1,6 +1,4 @@
-use Rattle.shm_life.proofs.Names.{◌≡◌}
-use Rattle.std.proofs.Common.{drop}
-use Rattle.shm_base.specs.Guest.{position_from}
+use Rattle.shm_life.proofs.Names.{◌≡◌, drop, position_from}
 use Rattle.shm_life.proofs.reserving.position_of.Given as goal
 
 abbrev pub invariant-loop-i : goal.invariant-loop-i

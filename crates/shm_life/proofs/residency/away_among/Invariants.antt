@@ -1,5 +1,4 @@
-use Rattle.std.proofs.Common.{◌≡◌, ◌≤◌, count_by, take}
-use Rattle.shm_life.specs.Residency.{is_away}
+use Rattle.shm_life.proofs.Names.{◌≡◌, ◌≤◌, count_by, take, is_away}
 use Rattle.shm_life.proofs.residency.away_among.Given as goal
 
 abbrev pub invariant-loop-owner : goal.invariant-loop-owner

@@ -1,7 +1,5 @@
-use Rattle.std.proofs.Common.{◌≡◌, ◌+◌, ◌∙◌, if◌then◌else◌, true, false, is_some, suc, ap, arith, sym}
-use Rattle.shm_fault.specs.Store.{frame_of}
+use Rattle.shm_life.proofs.Names.{frame_of, resident_below, ◌≡◌, ◌+◌, ◌∙◌, if◌then◌else◌, true, false, is_some, suc, ap, arith, sym}
 use Rattle.shm_life.proofs.Residing.{passed}
-use Rattle.shm_life.specs.Residency.{resident_below}
 use Rattle.shm_life.proofs.residency.resident_of.Goals as goal
 use Rattle.shm_life.proofs.residency.resident_of.Goals.{then-is_some, else-is_some}
 

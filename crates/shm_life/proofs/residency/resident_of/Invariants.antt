@@ -1,5 +1,4 @@
-use Rattle.std.proofs.Common.{◌≡◌, ◌≤◌, ◌-◌}
-use Rattle.shm_life.specs.Residency.{resident_below}
+use Rattle.shm_life.proofs.Names.{◌≡◌, ◌≤◌, ◌-◌, resident_below}
 use Rattle.shm_life.proofs.residency.resident_of.Given as goal
 
 abbrev pub invariant-loop-page : goal.invariant-loop-page

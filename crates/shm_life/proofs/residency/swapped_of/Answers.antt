@@ -1,9 +1,5 @@
-use Rattle.std.proofs.Common.{◌≡◌, ◌<◌, ◌∙◌, None, length, sym, arith}
-use Rattle.std.proofs.lemmas.List.Sums.{sum_by_more}
-use Rattle.shm_base.specs.Stored.{padded}
-use Rattle.shm_slots.specs.View.{area_at, no_area}
+use Rattle.shm_life.proofs.Names.{◌≡◌, ◌<◌, ◌∙◌, None, length, sym, arith, sum_by_more, padded, area_at, no_area, away_in}
 use Rattle.shm_life.proofs.Residing.{away-padded}
-use Rattle.shm_life.specs.Residency.{away_in}
 use Rattle.shm_life.proofs.residency.swapped_of.Goals as goal
 
 pub loop-area-preserved : goal.loop-area-preserved

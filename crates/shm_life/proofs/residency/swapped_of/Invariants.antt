@@ -1,5 +1,4 @@
-use Rattle.std.proofs.Common.{◌≡◌, ◌≤◌, ◌*◌, take, sum_by}
-use Rattle.shm_life.specs.Residency.{away_in}
+use Rattle.shm_life.proofs.Names.{◌≡◌, ◌≤◌, ◌*◌, take, sum_by, away_in}
 use Rattle.shm_life.proofs.residency.swapped_of.Given as goal
 
 abbrev pub invariant-loop-area : goal.invariant-loop-area

@@ -1,7 +1,5 @@
-use Rattle.shm_life.proofs.Names.{◌≡◌, ◌+◌, ◌-◌, ◌<◌, true, false, None, length, get_or, sym, ◌∙◌, arith, common_steps, nat_tests, within, Process}
-use Rattle.std.specs.Prelude.{nat_eq}
+use Rattle.shm_life.proofs.Names.{◌≡◌, ◌+◌, ◌-◌, ◌<◌, true, false, None, length, get_or, sym, ◌∙◌, arith, common_steps, nat_tests, within, Process, nat_eq, LAST_PID}
 use Rattle.std.specs.HashSet as set
-use Rattle.shm_base.specs.declared.bounds.TheConstants.{LAST_PID}
 use Rattle.shm_life.proofs.Pids.{out_of_range, twice, one_more, has_more}
 use Rattle.shm_life.proofs.start.are_listed_pids_sound.Goals as goal
 

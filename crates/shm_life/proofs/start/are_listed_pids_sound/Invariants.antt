@@ -1,5 +1,4 @@
-use Rattle.shm_life.proofs.Names.{◌≡◌, ◌≤◌, ℕ, true, drop, length, are_pids, has_pid}
-use Rattle.std.specs.Prelude.{nat_eq}
+use Rattle.shm_life.proofs.Names.{◌≡◌, ◌≤◌, ℕ, true, drop, length, are_pids, has_pid, nat_eq}
 use Rattle.std.specs.HashSet as set
 use Rattle.shm_life.proofs.start.are_listed_pids_sound.Given as goal
 

@@ -1,6 +1,4 @@
-use Rattle.shm_life.proofs.Names.{◌≡◌, ℕ, ◌+◌, ◌<◌, ◌&&◌, List, length, drop, get_or, refl, arith, common_steps, within, are_sizes}
-use Rattle.std.proofs.Common.{map}
-use Rattle.std.proofs.lemmas.List.{drop_more}
+use Rattle.shm_life.proofs.Names.{◌≡◌, ℕ, ◌+◌, ◌<◌, ◌&&◌, List, length, drop, get_or, refl, arith, common_steps, within, are_sizes, map, drop_more}
 use Rattle.shm_life.proofs.start.first_area_error.Goals as goal
 
 sizes-next : {A : Type 0} (most : ℕ) (size : A → ℕ) (areas : List A) (i : ℕ) (area : A) → i < length areas → area ≡ get_or areas i area

@@ -1,5 +1,4 @@
-use Rattle.shm_life.proofs.Names.{◌≡◌, ℕ, drop, are_sizes}
-use Rattle.std.proofs.Common.{map}
+use Rattle.shm_life.proofs.Names.{◌≡◌, ℕ, drop, are_sizes, map}
 use Rattle.std.specs.Fn.{FnReturnsAt}
 use Rattle.shm_life.proofs.start.first_area_error.Given as goal
 

@@ -1,5 +1,4 @@
-use Rattle.shm_life.proofs.Names.{◌≢◌, ap, refl, sym, ◌∙◌, SegmentsView, attach_count, change, destroyed, marked, memory-refl}
-use Rattle.shm_segments.proofs.Staying.{ends-refl}
+use Rattle.shm_life.proofs.Names.{◌≢◌, ap, refl, sym, ◌∙◌, SegmentsView, attach_count, change, destroyed, marked, memory-refl, ends-refl}
 use Rattle.shm_life.proofs.Removing.{Removes, destroys, marks, removed-well, true-unnamed}
 use Rattle.shm_life.proofs.sweep.remove.Given.{Over}
 use Rattle.shm_life.proofs.sweep.remove.Goals as goal

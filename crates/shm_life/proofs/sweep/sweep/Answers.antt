@@ -1,5 +1,4 @@
-use Rattle.shm_life.proofs.Names.{◌≡◌, drop, [], refl, sym, subst, ◌∙◌, drop_all, memory-refl, memory-trans, OrphansAmong}
-use Rattle.shm_segments.proofs.Staying.{ends-refl, ends-trans}
+use Rattle.shm_life.proofs.Names.{◌≡◌, drop, [], refl, sym, subst, ◌∙◌, drop_all, memory-refl, memory-trans, OrphansAmong, ends-refl, ends-trans}
 use Rattle.shm_life.proofs.Orphans.{swept-none}
 use Rattle.shm_life.proofs.Running.{sweeps-none, sweeps-trans, among-next, swept-well}
 use Rattle.shm_life.proofs.sweep.sweep.Given.{Over}

@@ -1,5 +1,4 @@
-use Rattle.shm_areas.proofs.Names.{◌∙◌, sym, arith, bare_all}
-use Rattle.shm_base.specs.Space.{ranges_of}
+use Rattle.shm_areas.proofs.Names.{◌∙◌, sym, arith, bare_all, ranges_of}
 use Rattle.shm_areas.proofs.FreeGaps.{chosen_early, chosen_end}
 use Rattle.shm_areas.proofs.space.Space.choose_beside.Goals as goal
 

@@ -1,6 +1,4 @@
-use Rattle.shm_areas.proofs.Names.{◌≡◌, drop, bare_all}
-use Rattle.shm_base.specs.Space.{ranges_of}
-use Rattle.shm_areas.specs.FreeGap.{free_from, free_from_ends, lesser_of}
+use Rattle.shm_areas.proofs.Names.{◌≡◌, drop, bare_all, ranges_of, free_from, free_from_ends, lesser_of}
 use Rattle.shm_areas.proofs.space.Space.choose_beside.Given as goal
 
 abbrev pub invariant-loop-range : goal.invariant-loop-range

@@ -1,6 +1,5 @@
-use Rattle.shm_areas.proofs.Names.{ap, ◌+◌, ◌≡◌, ◌≤◌, ◌∙◌, length, List, arith, common_steps, length-map, cut, Piece, bare, bare_all, stored_cut, left_by}
+use Rattle.shm_areas.proofs.Names.{ap, ◌+◌, ◌≡◌, ◌≤◌, ◌∙◌, length, List, arith, common_steps, length-map, cut, Piece, bare, bare_all, stored_cut, left_by, SpaceView}
 use Rattle.shm_base.specs.State as flat
-use Rattle.shm_areas.specs.Arranged.{SpaceView}
 use Rattle.shm_areas.proofs.Edits.{bare_cut, arranged_cut}
 use Rattle.shm_areas.proofs.Filled.{filled-cut}
 use Rattle.shm_areas.proofs.Passing.{all-cut, within-parts}

@@ -1,5 +1,4 @@
-use Rattle.shm_areas.proofs.Names.{◌≡◌, ◌∙◌, ◌-◌, arith, sym, ap, length, take, drop, max, take_all, length-drop, lowest_address, first_chosen, gap_from, bare_all, List, Piece}
-use Rattle.shm_areas.specs.Arranged.{SpaceView}
+use Rattle.shm_areas.proofs.Names.{◌≡◌, ◌∙◌, ◌-◌, arith, sym, ap, length, take, drop, max, take_all, length-drop, lowest_address, first_chosen, gap_from, bare_all, List, Piece, SpaceView}
 use Rattle.shm_areas.proofs.Filled.{arranged-drop, gap-behind}
 use Rattle.shm_areas.proofs.FreeGaps.{gap-room}
 use Rattle.shm_areas.proofs.space.Space.gap_from.Goals.{After-least_gap}

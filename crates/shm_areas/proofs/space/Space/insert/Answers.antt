@@ -1,9 +1,7 @@
-use Rattle.shm_areas.proofs.Names.{ap, bare, ◌+◌, ◌≤◌, ◌∙◌, bare_all, arith, common_steps}
-use Rattle.shm_areas.specs.Arranged.{SpaceView}
+use Rattle.shm_areas.proofs.Names.{ap, bare, ◌+◌, ◌≤◌, ◌∙◌, bare_all, arith, common_steps, SpaceView, All-weaker}
 use Rattle.shm_areas.proofs.Edits.{bare_inserted, inserted_at, arranged_inserted, length_inserted}
 use Rattle.shm_areas.proofs.Filled.{filled-inserted}
 use Rattle.shm_areas.proofs.Passing.{all-inserted}
-use Rattle.std.proofs.lemmas.List.Elements.{All-weaker}
 use Rattle.shm_base.specs.State as flat
 use Rattle.shm_areas.proofs.space.Space.insert.Goals as goal
 

@@ -1,6 +1,4 @@
-use Rattle.shm_areas.proofs.Names.{◌≡◌, ◌∙◌, ap, find, has_origin, option_map, Piece, bare}
-use Rattle.std.specs.Prelude.{slice_range}
-use Rattle.shm_areas.specs.Arranged.{SpaceView}
+use Rattle.shm_areas.proofs.Names.{◌≡◌, ◌∙◌, ap, find, has_origin, option_map, Piece, bare, slice_range, SpaceView}
 use Rattle.shm_areas.proofs.Origins.{find-run, stored_origin}
 use Rattle.shm_areas.proofs.space.Space.origin_of.Goals as goal
 

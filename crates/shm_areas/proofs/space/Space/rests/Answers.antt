@@ -1,6 +1,4 @@
-use Rattle.shm_areas.proofs.Names.{◌∙◌, ap, bare, bare_all, meets, Piece, List}
-use Rattle.std.proofs.lemmas.List.Elements.{filter_passes}
-use Rattle.shm_base.specs.Space.{rest_segments}
+use Rattle.shm_areas.proofs.Names.{◌∙◌, ap, bare, bare_all, meets, Piece, List, filter_passes, rest_segments}
 use Rattle.shm_areas.proofs.Edits.{arranged_filter}
 use Rattle.shm_areas.proofs.Leaving.{rests-met}
 use Rattle.shm_areas.proofs.space.Space.rests.Goals as goal

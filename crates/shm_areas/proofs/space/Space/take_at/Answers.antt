@@ -1,10 +1,6 @@
-use Rattle.shm_areas.proofs.Names.{ap, ◌+◌, ◌≡◌, ◌≤◌, ◌∙◌, find, has_origin, length, List, arith, not, option_map, origin_of, sym, lowest_address, Piece, bare, bare_all, stored_named, stored_without}
-use Rattle.std.specs.Prelude.{slice_range}
-use Rattle.std.proofs.lemmas.List.Elements.{All-filter}
+use Rattle.shm_areas.proofs.Names.{ap, ◌+◌, ◌≡◌, ◌≤◌, ◌∙◌, find, has_origin, length, List, arith, not, option_map, origin_of, sym, lowest_address, Piece, bare, bare_all, stored_named, stored_without, slice_range, All-filter, is_named, SpaceView}
 use Rattle.std.proofs.lemmas.List.Sums.{length-filter, count_by-le-length}
 use Rattle.shm_base.specs.State as flat
-use Rattle.shm_base.specs.Space.{is_named}
-use Rattle.shm_areas.specs.Arranged.{SpaceView}
 use Rattle.shm_areas.proofs.Edits.{arranged_filter, bare_filter}
 use Rattle.shm_areas.proofs.Filled.{filled-without}
 use Rattle.shm_areas.proofs.Origins.{find-run, seg_of_origin, taken-run}

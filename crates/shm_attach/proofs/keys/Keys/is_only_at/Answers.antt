@@ -1,5 +1,4 @@
-use Rattle.shm_attach.proofs.Names.{◌≡◌, ◌%◌, Some, inl, inr, cases_eq, eq-eqb, eqb-true, refl, sym}
-use Rattle.shm_attach.specs.Keys.{entry_at}
+use Rattle.shm_attach.proofs.Names.{◌≡◌, ◌%◌, Some, inl, inr, cases_eq, eq-eqb, eqb-true, refl, sym, entry_at}
 use Rattle.shm_attach.proofs.ByIndex.{alone-none, alone-other, alone-own}
 use Rattle.shm_attach.proofs.keys.Keys.is_only_at.Goals as goal
 

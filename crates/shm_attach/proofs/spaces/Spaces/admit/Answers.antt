@@ -1,6 +1,4 @@
-use Rattle.shm_attach.proofs.Names.{◌≡◌, ◌<◌, ◌≤◌, ◌∙◌, ap, refl, arith, [], ◌∷◌, ◌++◌, length, length-map, None, Runner, insert_entry, nat_eq, bare_all, runner_view, runners_view, attach_count, ℕ, SpaceView, runner_at_start}
-use Rattle.std.proofs.lemmas.List.{length-append}
-use Rattle.shm_base.specs.Guest.{standing}
+use Rattle.shm_attach.proofs.Names.{◌≡◌, ◌<◌, ◌≤◌, ◌∙◌, ap, refl, arith, [], ◌∷◌, ◌++◌, length, length-map, None, Runner, insert_entry, nat_eq, bare_all, runner_view, runners_view, attach_count, ℕ, SpaceView, runner_at_start, standing, length-append}
 use Rattle.shm_attach.proofs.Joining.{joins-behind, shown-behind, sound-old, each-inserted, attach_count-behind}
 use Rattle.shm_attach.proofs.Starts.{room-more}
 use Rattle.shm_attach.proofs.spaces.Spaces.admit.Goals.{In_ok-insert}

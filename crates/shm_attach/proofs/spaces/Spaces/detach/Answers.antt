@@ -1,8 +1,5 @@
-use Rattle.shm_attach.proofs.Names.{◌≡◌, ◌∙◌, ℕ, ap, sym, Option, None, Some, List, SpacesView, no_reservations, pieces_at, runners_view, without_named}
-use Rattle.std.specs.Option.{IfSome}
+use Rattle.shm_attach.proofs.Names.{◌≡◌, ◌∙◌, ℕ, ap, sym, Option, None, Some, List, SpacesView, no_reservations, pieces_at, runners_view, without_named, attached_at, without_attach, without_segment, with_own_pieces, IfSome}
 use Rattle.shm_base.specs.State as flat
-use Rattle.shm_attach.specs.Changes.{attached_at, without_attach, without_segment}
-use Rattle.shm_attach.specs.Mapping.{with_own_pieces}
 use Rattle.shm_attach.proofs.Callers.{caller_within, with_pieces-of}
 use Rattle.shm_attach.proofs.Translations.{keeps}
 use Rattle.shm_attach.proofs.HavingTables.{room_kept}

@@ -1,6 +1,4 @@
-use Rattle.shm_attach.proofs.Names.{◌≡◌, ◌∙◌, ap, sym, refl, arith, common_steps, [], length, length-map, slice_get, Some, is_live, false, life_view, runner_view, runners_view, pieces_at, life_at, attach_count, ℕ, ◌+◌}
-use Rattle.std.specs.Prelude.{Ok}
-use Rattle.std.specs.Prelude.{swap_remove}
+use Rattle.shm_attach.proofs.Names.{◌≡◌, ◌∙◌, ap, sym, refl, arith, common_steps, [], length, length-map, slice_get, Some, is_live, false, life_view, runner_view, runners_view, pieces_at, life_at, attach_count, ℕ, ◌+◌, Ok, swap_remove}
 use Rattle.shm_base.specs.State.{Runner}
 use Rattle.shm_attach.proofs.Joining.{standing-there, asleep, IsOut, out_there, sound-old, each-left, shown-left, room-left, length-left, attach_count-left}
 use Rattle.shm_attach.proofs.spaces.Spaces.dismiss.Goals.{After-swap_remove_index}

@@ -1,9 +1,8 @@
-use Rattle.shm_attach.proofs.Names.{◌≡◌, ◌<◌, ◌∙◌, ap, arith, [], length, common_steps, length-map, slice_get_within, with_pieces, runners_view, SpacesView, caller_seen, pieces_at}
+use Rattle.shm_attach.proofs.Names.{◌≡◌, ◌<◌, ◌∙◌, ap, arith, [], length, common_steps, length-map, slice_get_within, with_pieces, runners_view, SpacesView, caller_seen, pieces_at, AreTablesSound, no_reservations}
 use Rattle.shm_attach.proofs.Callers.{caller_there, with_end-at, length-with_pieces, pieces_at-left}
 use Rattle.shm_attach.proofs.Sound.{sound-life}
 use Rattle.shm_attach.proofs.spaces.Spaces.exit.Goals.{After-self}
 use Rattle.shm_attach.proofs.HavingTables.{room_kept}
-use Rattle.shm_attach.specs.Exact.{AreTablesSound, no_reservations}
 use Rattle.shm_base.specs.State.{Ended}
 use Rattle.shm_attach.proofs.spaces.Spaces.exit.Goals as goal
 

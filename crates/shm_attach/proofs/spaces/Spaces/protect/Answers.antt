@@ -1,7 +1,6 @@
-use Rattle.shm_attach.proofs.Names.{with_pieces, caller_seen, subst, sym, LostView, ◌∙◌, ◌≡◌, ◌<◌, refl, ap, arith, length, common_steps, runners_view, SpacesView, pieces_at, most_at, IsCaller}
-use Rattle.shm_base.specs.Mapping.{Protected}
-use Rattle.shm_attach.specs.Mapping.{protected_by, protected_between, KeepsOwn}
+use Rattle.shm_attach.proofs.Names.{with_pieces, caller_seen, sym, LostView, ◌∙◌, ◌≡◌, ◌<◌, refl, ap, arith, length, common_steps, runners_view, SpacesView, pieces_at, most_at, IsCaller, Protected, protected_by, protected_between}
 use Rattle.shm_attach.proofs.Callers.{caller_within, caller_lives, with_pieces_now, with_pieces_own}
+use Rattle.shm_attach.proofs.Protected.{protected-own}
 use Rattle.shm_attach.proofs.Protecting.{protected-whole}
 use Rattle.shm_attach.proofs.Translations.{keeps}
 use Rattle.shm_attach.proofs.spaces.Spaces.protect.Goals.{After-self, In-Some}
@@ -67,10 +66,8 @@ returns-clause-translated c =
 
 pub returns-clause-own : goal.returns-clause-own
 returns-clause-own c =
-    let i = c.args.caller.now.index in
-    let b = (goal.at.returns-clause-own c).In-Some in
-    subst (λ ps. KeepsOwn ps (protected_by c.args.self.now c.args.caller.now c.args.writable c.args.addr c.args.len).pieces) (ap (λ (v : SpacesView). pieces_at v.runners i) c.self.view_is)
-    (subst (KeepsOwn (pieces_at (runners_view c.self.inside.processes.entries) i)) (ap (λ (x : Protected). x.pieces) (whole b)) c.protect_range.ensures.own)
+    rw (← c.self.view_is)
+    (protected-own c.self.inside.most c.args.writable c.args.addr c.args.len _ (c.self.invariant.0.exact.arranged c.args.caller.now.index))
 
 -- THE SEGMENTS OF PIECES THAT ARE SPLIT
 

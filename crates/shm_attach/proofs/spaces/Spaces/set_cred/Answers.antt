@@ -1,5 +1,4 @@
-use Rattle.shm_attach.proofs.Names.{◌<◌, arith, length, length-map, runner_view, runners_view, IsCaller}
-use Rattle.shm_base.specs.State.{Live as Living}
+use Rattle.shm_attach.proofs.Names.{◌<◌, arith, length, length-map, runner_view, runners_view, IsCaller, Living}
 use Rattle.shm_attach.proofs.Callers.{caller_within}
 use Rattle.shm_attach.proofs.Joining.{attach_count-life, recredited}
 use Rattle.shm_attach.proofs.HavingTables.{room_kept}

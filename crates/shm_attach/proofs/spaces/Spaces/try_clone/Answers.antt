@@ -1,6 +1,4 @@
-use Rattle.shm_attach.proofs.Names.{◌≡◌, ◌∙◌, refl, ap, LostView, no_reservations}
-use Rattle.std.proofs.Common.{rules}
-use Rattle.std.proofs.lemmas.List.Elements.{same_from_all_zip}
+use Rattle.shm_attach.proofs.Names.{◌≡◌, ◌∙◌, refl, ap, LostView, no_reservations, rules, same_from_all_zip}
 use Rattle.shm_attach.proofs.Copies.{sound-same}
 use Rattle.shm_attach.proofs.spaces.Spaces.try_clone.Goals as goal
 

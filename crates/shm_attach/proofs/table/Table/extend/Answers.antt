@@ -1,7 +1,4 @@
-use Rattle.std.proofs.Common.{◌≡◌, ◌∙◌, None, Option, ℕ, ap, arith, refl}
-use Rattle.shm_base.specs.Stored.{padded}
-use Rattle.shm_base.proofs.Stored.{length-padded}
-use Rattle.shm_fault.specs.Store.{frame_of}
+use Rattle.shm_attach.proofs.Names.{◌≡◌, ◌∙◌, None, Option, ℕ, ap, arith, refl, padded, length-padded, frame_of}
 use Rattle.shm_sparse.specs.Sparse.{SparseView}
 use Rattle.shm_attach.proofs.Untouched.{known-first, known-over}
 use Rattle.shm_attach.proofs.table.Table.extend.Goals as goal

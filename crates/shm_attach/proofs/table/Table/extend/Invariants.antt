@@ -1,6 +1,4 @@
-use Rattle.std.specs.Prelude.{◌≡◌, ◌≤◌, ◌-◌, None, length}
-use Rattle.shm_fault.specs.Store.{frame_of}
-use Rattle.shm_attach.specs.Table.{TrueTable}
+use Rattle.shm_attach.proofs.Names.{frame_of, TrueTable, ◌≡◌, ◌≤◌, ◌-◌, None, length}
 use Rattle.shm_attach.proofs.Untouched.{KnownBelow}
 use Rattle.shm_attach.proofs.table.Table.extend.Given as goal
 

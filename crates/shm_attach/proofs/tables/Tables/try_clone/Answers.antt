@@ -1,5 +1,4 @@
-use Rattle.shm_attach.proofs.Names.{refl}
-use Rattle.std.proofs.lemmas.List.Elements.{same_from_all_zip}
+use Rattle.shm_attach.proofs.Names.{refl, same_from_all_zip}
 use Rattle.shm_attach.proofs.Copies.{same_slot}
 use Rattle.shm_attach.proofs.tables.Tables.try_clone.Goals as goal
 

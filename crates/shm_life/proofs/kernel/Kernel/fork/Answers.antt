@@ -1,14 +1,8 @@
-use Rattle.shm_life.proofs.Names.{◌∙◌, ◌≡◌, ap, rules, Piece, All, refl, [], IsCaller, IsLive, caller_seen, pieces_at, born_child, SameTable, segments_of}
-use Rattle.shm_base.specs.Step.{unborn_from}
-use Rattle.std.specs.Prelude.{Some}
-use Rattle.std.proofs.Common.{map}
-use Rattle.shm_base.specs.Rules.{fork_marks}
-use Rattle.shm_life.specs.Inherited.{segments_in}
+use Rattle.shm_life.proofs.Names.{◌∙◌, ◌≡◌, ap, rules, Piece, All, refl, [], IsCaller, IsLive, caller_seen, pieces_at, born_child, SameTable, segments_of, unborn_from, map, fork_marks, segments_in, moves-refl, Some}
 use Rattle.shm_life.proofs.Going.{renewed, renewed-same}
 use Rattle.shm_life.proofs.Inheriting.{segments-bare}
-use Rattle.shm_segments.proofs.Staying.{moves-refl}
 use Rattle.shm_life.proofs.Running.{granted, keeps_refl}
-use Rattle.shm_life.proofs.Settled.{caller-fits, lives-map, still-well}
+use Rattle.shm_life.proofs.Settled.{caller-fits, lives-map, still-well, well-kept}
 use Rattle.shm_life.proofs.Peopled.{forked-apart}
 use Rattle.shm_life.proofs.Changed.{born-fits, forked-kept}
 use Rattle.shm_life.proofs.kernel.Kernel.fork.Given.{Over}
@@ -41,12 +35,9 @@ invariant_of-self g c = (
       let translated = c.fork.ensures.translated c.self.inside.segments.memory c.self.invariant.0.translated in
       rw c.note_inherited.ensures
       (still-well {lost = []} _ _ _ _ _ _ _ _
-      (record {
-        kept = forked-kept c.self.inside.limits t rs c.fork.new.self.runners c.self.invariant.0.kept (rw born fits) c.fork.ensures.more (rw born (forked-apart c.self.inside.limits.most_processes rs (caller_seen caller rs) child unborn c.self.invariant.0.kept.processes));
-        frames = c.self.invariant.0.frames;
-        room = c.self.invariant.0.room;
-        translated = translated;
-      }) same refl translated)),
+      (well-kept _ _ _ _ _ _ _ _ c.self.invariant.0
+      (forked-kept c.self.inside.limits t rs c.fork.new.self.runners c.self.invariant.0.kept (rw born fits) c.fork.ensures.more (rw born (forked-apart c.self.inside.limits.most_processes rs (caller_seen caller rs) child unborn c.self.invariant.0.kept.processes)))
+      translated) same refl translated)),
   c.fork.ensures.most ∙ c.self.invariant.1,
   c.self.invariant.2,
 )

@@ -1,5 +1,4 @@
-use Rattle.shm_life.proofs.Names.{◌≡◌, ◌∙◌, None, sym}
-use Rattle.shm_life.specs.Lending.{return_refusal}
+use Rattle.shm_life.proofs.Names.{◌≡◌, ◌∙◌, None, sym, return_refusal}
 use Rattle.shm_life.proofs.Lending.{loan-well, resident-still, returnable, returned}
 use Rattle.shm_life.proofs.kernel.Kernel.give_back.Goals as goal
 

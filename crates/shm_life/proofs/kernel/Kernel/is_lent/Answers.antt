@@ -1,6 +1,4 @@
-use Rattle.shm_life.proofs.Names.{◌≡◌, ◌∙◌, Some, None, sym}
-use Rattle.shm_fault.proofs.Sound.{frame-own}
-use Rattle.shm_fault.specs.Goes.{frame_by}
+use Rattle.shm_life.proofs.Names.{◌≡◌, ◌∙◌, Some, None, sym, frame-own, frame_by}
 use Rattle.shm_fault.specs.Store.{frame_of}
 use Rattle.shm_life.proofs.Lending.{lent-there, lent-nowhere}
 use Rattle.shm_life.proofs.kernel.Kernel.is_lent.Goals as goal

@@ -1,7 +1,4 @@
-use Rattle.shm_life.proofs.Names.{◌≡◌, ◌+◌, ◌*◌, ◌≤◌, arith}
-use Rattle.std.proofs.Common.{◌⊎◌, inl, inr}
-use Rattle.std.proofs.lemmas.Bool.{cases_lt}
-use Rattle.shm_base.specs.Space.{end_address}
+use Rattle.shm_life.proofs.Names.{◌≡◌, ◌+◌, ◌*◌, ◌≤◌, arith, ◌⊎◌, inl, inr, cases_lt, end_address}
 use Rattle.shm_life.proofs.Ranges.{capped}
 use Rattle.shm_life.proofs.kernel.Kernel.is_reserved.Goals as goal
 

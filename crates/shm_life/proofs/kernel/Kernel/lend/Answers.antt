@@ -1,5 +1,4 @@
-use Rattle.shm_life.proofs.Names.{◌≡◌, ◌∙◌, None, sym}
-use Rattle.shm_life.specs.Lending.{lend_refusal}
+use Rattle.shm_life.proofs.Names.{◌≡◌, ◌∙◌, None, sym, lend_refusal}
 use Rattle.shm_life.proofs.Lending.{failed, lendable, lent-view, loan-well, went}
 use Rattle.shm_life.proofs.Running.{err_fact, ok_fact}
 use Rattle.shm_life.proofs.kernel.Kernel.lend.Goals as goal

@@ -1,5 +1,4 @@
-use Rattle.shm_life.proofs.Names.{arith, rules, ◌≡◌, ◌%◌, ◌≤◌, length, List, [], Some, None, refl, sym, ap, ◌∙◌, to_z, of_z, w32, Entry, change, locked, lockable, locks, locks_unless, gives, Done, IsFound, relocked, segment_seen, caller_seen, change-index, Head, whole, StoreView}
-use Rattle.shm_base.specs.Locking.{lock_refusal}
+use Rattle.shm_life.proofs.Names.{arith, rules, ◌≡◌, ◌%◌, ◌≤◌, length, List, [], Some, None, refl, sym, ap, ◌∙◌, to_z, of_z, w32, Entry, change, locked, lockable, locks, locks_unless, gives, Done, IsFound, relocked, segment_seen, caller_seen, change-index, Head, whole, StoreView, lock_refusal}
 use Rattle.shm_life.proofs.Changed.{relocked-well, lock-few, lock-granted}
 use Rattle.shm_life.proofs.Running.{refused_as, keeps_refl, locking}
 use Rattle.shm_life.proofs.kernel.Kernel.lock.Given.{Over}

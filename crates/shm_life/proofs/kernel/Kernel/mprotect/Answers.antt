@@ -1,9 +1,7 @@
-use Rattle.shm_life.proofs.Names.{◌∙◌, refl, ap, [], All, Machine, Piece, IsCaller, IsLive, PieceFits, caller_seen, pieces_at, sizes, SameTable, SegmentsView}
-use Rattle.std.proofs.lemmas.List.Elements.{All-weaker}
-use Rattle.shm_base.specs.Rules.{rest_is_attached}
+use Rattle.shm_life.proofs.Names.{◌∙◌, refl, ap, [], All, Machine, Piece, IsCaller, IsLive, PieceFits, caller_seen, pieces_at, sizes, SameTable, SegmentsView, All-weaker, rest_is_attached}
 use Rattle.shm_life.proofs.Going.{renewed, renewed-kept, renewed-same}
-use Rattle.shm_life.proofs.Settled.{caller-fits, still-well}
-use Rattle.shm_life.proofs.Splitting.{split-own}
+use Rattle.shm_life.proofs.Settled.{caller-fits, still-well, well-kept}
+use Rattle.shm_attach.proofs.Protected.{split-own}
 use Rattle.shm_life.proofs.Protected.{mprotect-as}
 use Rattle.shm_life.proofs.Running.{unmoved}
 use Rattle.shm_life.proofs.kernel.Kernel.mprotect.Goals as goal
@@ -30,12 +28,7 @@ invariant_of-self g c = (
       let same : SameTable t (renewed (rest_is_attached c.rules.result) c.args.time caller.pid t c.lost.result.now) = renewed-same (rest_is_attached c.rules.result) c.args.time caller.pid t c.lost.result.now in
       rw c.attach_rests.ensures
       (still-well {lost = []} _ _ _ _ _ _ _ _
-      (record {
-        kept = rw e.runners (renewed-kept c.self.inside.limits t rs caller w.kept is _ e.own);
-        frames = w.frames;
-        room = w.room;
-        translated = translated;
-      }) same refl translated)),
+      (well-kept _ _ _ _ _ _ _ _ w (rw e.runners (renewed-kept c.self.inside.limits t rs caller w.kept is _ e.own)) translated) same refl translated)),
   c.protect-protected.ensures.most ∙ c.self.invariant.1,
   c.self.invariant.2,
 )

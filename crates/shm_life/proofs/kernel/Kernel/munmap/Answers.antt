@@ -1,7 +1,6 @@
-use Rattle.shm_life.proofs.Names.{rules, refl, ◌∙◌, ◌≡◌, ap, IsCaller, SameTable, pieces_at, rest_segments, detach_all, swept, SegmentsView}
-use Rattle.shm_base.specs.Rules.{rest_is_attached}
-use Rattle.shm_life.proofs.Going.{Goes, range-goes, renewed, renewed-first, renewed-same, rests-live, well-gone}
-use Rattle.shm_life.proofs.Settled.{settled-table}
+use Rattle.shm_life.proofs.Names.{rules, refl, ◌∙◌, ◌≡◌, ap, IsCaller, SameTable, pieces_at, rest_segments, detach_all, swept, SegmentsView, rest_is_attached}
+use Rattle.shm_life.proofs.Going.{Goes, swept-may, range-goes, renewed, renewed-first, renewed-same, rests-live}
+use Rattle.shm_life.proofs.Settled.{well-kept, settled-table}
 use Rattle.shm_life.proofs.Running.{granted, kept_refl}
 use Rattle.shm_life.proofs.kernel.Kernel.munmap.Given.{Over}
 use Rattle.shm_life.proofs.kernel.Kernel.munmap.Goals as goal
@@ -28,21 +27,15 @@ goes g c =
     rw (c.attach_rests.ensures, c.lost.ensures.value, e.lost, e.runners)
     (range-goes c.self.inside.limits _ rs caller (settled-table c.self.inside.limits t _ rs c.self.invariant.0.kept same) is c.args.addr c.in_ok-to.to)
 
-pub after_detach-requires-clause-live : goal.after_detach-requires-clause-live
-after_detach-requires-clause-live g c = (goes g c).live
-
-pub after_detach-requires-clause-few : goal.after_detach-requires-clause-few
-after_detach-requires-clause-few g c = (goes g c).kept.few
-
-pub after_detach-requires-clause-orphans : goal.after_detach-requires-clause-orphans
-after_detach-requires-clause-orphans g c = (goes g c).kept.orphans
+pub after_detach-requires : goal.after_detach-requires
+after_detach-requires g c = swept-may _ _ _ (goes g c)
 
 pub invariant_of-self-2 : goal.invariant_of-self-2
 invariant_of-self-2 g c = (
   (let m = c.self.inside.segments.memory in
       let same : c.attach_rests.new.segments.memory ≡ m = ap (λ (v : SegmentsView). v.memory) c.attach_rests.ensures in
       let translated = c.unmap.ensures.translated m c.self.invariant.0.translated in
-      c.after_detach.ensures.well c.self.inside.limits (rw same (well-gone _ _ _ _ _ _ _ _ c.self.invariant.0 (goes g (goal.at.invariant_of-self-2 g c).After-lost) translated))),
+      c.after_detach.ensures.well c.self.inside.limits (rw same (well-kept _ _ _ _ _ _ _ _ c.self.invariant.0 (goes g (goal.at.invariant_of-self-2 g c).After-lost).kept translated))),
   c.unmap.ensures.most ∙ c.self.invariant.1,
   c.self.invariant.2,
 )

@@ -1,5 +1,4 @@
-use Rattle.std.proofs.Common.{◌≡◌, ◌<◌, ℕ, false}
-use Rattle.shm_life.specs.Notices.{is_untold}
+use Rattle.shm_life.proofs.Names.{◌≡◌, ◌<◌, ℕ, false, is_untold}
 use Rattle.shm_life.proofs.kernel.Kernel.next_gone.Given as goal
 
 -- every segment that was destroyed at the indexes so far was reported

@@ -1,5 +1,4 @@
-use Rattle.shm_life.proofs.Names.{◌∙◌, IsCaller, ap, subst, sym}
-use Rattle.shm_life.specs.MachineView.{MachineView}
+use Rattle.shm_life.proofs.Names.{◌∙◌, IsCaller, ap, subst, sym, MachineView}
 use Rattle.shm_life.proofs.Paged.{may-write, page-seen-of}
 use Rattle.shm_life.proofs.kernel.Kernel.page_at.Goals as goal
 

@@ -1,5 +1,4 @@
-use Rattle.shm_life.proofs.Names.{◌∙◌, IsCaller, ap, subst, sym}
-use Rattle.shm_life.specs.MachineView.{MachineView}
+use Rattle.shm_life.proofs.Names.{◌∙◌, IsCaller, ap, subst, sym, MachineView}
 use Rattle.shm_life.proofs.Lending.{asked-from, one-found, same-found, two-found}
 use Rattle.shm_life.proofs.kernel.Kernel.pages_asked.Goals as goal
 

@@ -1,10 +1,6 @@
-use Rattle.shm_life.proofs.Names.{rules, ◌≡◌, ◌<◌, ◌≤◌, ◌∙◌, true, false, length, sym, ap, to_z, of_z, w32, arith, look, grants, at_wish, caller_seen, look_of, is_misplaced, base_for, segment_seen, Placed, pieces_beside, placed_at, placed}
+use Rattle.shm_life.proofs.Names.{rules, ◌≡◌, ◌<◌, ◌≤◌, ◌∙◌, true, false, length, sym, ap, to_z, of_z, w32, arith, look, grants, at_wish, caller_seen, look_of, is_misplaced, base_for, segment_seen, Placed, pieces_beside, placed_at, placed, IfOk, MachineView, bare_all, choose_beside, ranges_of}
 use Rattle.shm_life.proofs.Changed.{pages-seen}
 use Rattle.shm_life.proofs.Attaching.{chosen-for, placed-found, if_few-under, if_few-over}
-use Rattle.std.specs.Prelude.{IfOk}
-use Rattle.shm_life.specs.MachineView.{MachineView}
-use Rattle.shm_areas.specs.Arranged.{bare_all}
-use Rattle.shm_base.specs.Space.{choose_beside, ranges_of}
 use Rattle.shm_attach.specs.Place.{IsRange}
 use Rattle.shm_life.proofs.kernel.Kernel.place_for.Given.{Over}
 use Rattle.shm_life.proofs.kernel.Kernel.place_for.Goals as goal

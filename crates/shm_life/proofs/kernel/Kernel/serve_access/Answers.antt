@@ -1,9 +1,5 @@
-use Rattle.shm_life.proofs.Names.{◌≡◌, ◌∙◌, ℕ, ap, length, length-replicate, refl, arith, common_steps}
-use Rattle.std.specs.Prelude.{replicate}
-use Rattle.std.proofs.Math.Seq.{take-append_seam}
-use Rattle.std.proofs.lemmas.List.{take-replicate}
+use Rattle.shm_life.proofs.Names.{◌≡◌, ◌∙◌, ℕ, ap, length, length-replicate, refl, arith, common_steps, take-append_seam, take-replicate, reply_of, replicate}
 use Rattle.shm_base.proofs.Padded.{padded}
-use Rattle.shm_life.specs.Accessing.{reply_of}
 use Rattle.shm_life.proofs.Accessing.{acted}
 use Rattle.shm_life.proofs.kernel.Kernel.serve_access.Goals as goal
 

@@ -1,7 +1,4 @@
-use Rattle.shm_life.proofs.Names.{rules, ◌≡◌, ◌%◌, ◌∙◌, List, [], Bool, false, if◌then◌else◌, refl, sym, ap, to_z, of_z, w32, Entry, change, gives, Done, segment_seen, reowned, change-index, change-same, Head, whole}
-use Rattle.shm_base.specs.Callers.{refuses}
-use Rattle.shm_base.specs.Step.{is_no_owner, sets}
-use Rattle.shm_base.specs.declared.errno.Errno.TheVariants.{Einval}
+use Rattle.shm_life.proofs.Names.{rules, ◌≡◌, ◌%◌, ◌∙◌, List, [], Bool, false, if◌then◌else◌, refl, sym, ap, to_z, of_z, w32, Entry, change, gives, Done, segment_seen, reowned, change-index, change-same, Head, whole, refuses, is_no_owner, sets, Einval}
 use Rattle.shm_life.proofs.Running.{unmoved}
 use Rattle.shm_life.proofs.Settled.{still-well}
 use Rattle.shm_life.proofs.kernel.Kernel.set.Goals as goal

@@ -1,6 +1,6 @@
-use Rattle.shm_life.proofs.Names.{◌≡◌, ◌+◌, ◌*◌, pieces_at, rest_segments, refl, ap, sym, ◌∙◌, rules, to_z, of_z, w32, Outcome, shmat, is_refusal, AreTrue, IsCaller, caller_seen, SegmentsView, piece_for, attaches_if, PieceFits}
-use Rattle.shm_life.proofs.Going.{Goes, attached-goes, attached-first, renewed-first, renewed-same, rests-live, well-gone}
-use Rattle.shm_base.specs.Rules.{rest_is_attached}
+use Rattle.shm_life.proofs.Names.{◌≡◌, ◌+◌, ◌*◌, pieces_at, rest_segments, refl, ap, sym, ◌∙◌, rules, to_z, of_z, w32, Outcome, shmat, is_refusal, AreTrue, IsCaller, caller_seen, SegmentsView, piece_for, attaches_if, PieceFits, rest_is_attached}
+use Rattle.shm_life.proofs.Settled.{well-kept}
+use Rattle.shm_life.proofs.Going.{Goes, swept-may, attached-goes, attached-first, renewed-first, renewed-same, rests-live}
 use Rattle.shm_life.proofs.Attaching.{on-err}
 use Rattle.shm_life.proofs.Running.{granted, kept_refl, answered_as}
 use Rattle.shm_life.proofs.Indexed.{only-at}
@@ -39,14 +39,8 @@ attached-requires g c =
     let t = c.self.inside.segments.table in
     rw c.attach_rests.ensures ((renewed-same (rest_is_attached c.rules.result) c.args.time c.args.caller.now.pid t c.segments.result.now).same.there c.in-Ok.placed.seg ∙ fits.0)
 
-pub after_detach-requires-clause-live : goal.after_detach-requires-clause-live
-after_detach-requires-clause-live g c = (goes g c).live
-
-pub after_detach-requires-clause-few : goal.after_detach-requires-clause-few
-after_detach-requires-clause-few g c = (goes g c).kept.few
-
-pub after_detach-requires-clause-orphans : goal.after_detach-requires-clause-orphans
-after_detach-requires-clause-orphans g c = (goes g c).kept.orphans
+pub after_detach-requires : goal.after_detach-requires
+after_detach-requires g c = swept-may _ _ _ (goes g c)
 
 pub invariant_of-self-2 : goal.invariant_of-self-2
 invariant_of-self-2 g c = (
@@ -54,7 +48,7 @@ invariant_of-self-2 g c = (
       let store = c.store-store.ensures.value in
       let translated : AreTrue c.attach.new.self.translations m = rw store at (c.attach.ensures.translated (rw store c.self.invariant.0.translated)) in
       let same : c.attached.new.self.memory ≡ m = ap (λ (v : SegmentsView). v.memory) c.attached.ensures ∙ ap (λ (v : SegmentsView). v.memory) c.attach_rests.ensures in
-      c.after_detach.ensures.well c.self.inside.limits (rw same (well-gone _ _ _ _ _ _ _ _ c.self.invariant.0 (goes g (goal.at.invariant_of-self-2 g c).After-lost) translated))),
+      c.after_detach.ensures.well c.self.inside.limits (rw same (well-kept _ _ _ _ _ _ _ _ c.self.invariant.0 (goes g (goal.at.invariant_of-self-2 g c).After-lost).kept translated))),
   c.attach.ensures.most ∙ c.self.invariant.1,
   c.self.invariant.2,
 )

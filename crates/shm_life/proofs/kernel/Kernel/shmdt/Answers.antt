@@ -1,6 +1,6 @@
-use Rattle.shm_life.proofs.Names.{rules, ◌∙◌, ◌≡◌, ◌∷◌, [], refl, sym, Some, Piece, Machine, origin_of, IsCaller, caller_seen, pieces_at, sizes, shmdt-named}
-use Rattle.std.proofs.Common.{option_map}
-use Rattle.shm_life.proofs.Going.{Goes, named-go, well-gone}
+use Rattle.shm_life.proofs.Names.{rules, ◌∙◌, ◌≡◌, ◌∷◌, [], refl, sym, Some, Piece, Machine, origin_of, IsCaller, caller_seen, pieces_at, sizes, shmdt-named, option_map}
+use Rattle.shm_life.proofs.Settled.{well-kept}
+use Rattle.shm_life.proofs.Going.{Goes, swept-may, named-go}
 use Rattle.shm_life.proofs.Running.{granted, kept_refl}
 use Rattle.shm_life.proofs.kernel.Kernel.shmdt.Given.{Over}
 use Rattle.shm_life.proofs.kernel.Kernel.shmdt.Goals as goal
@@ -16,11 +16,8 @@ goes g c =
     let is : IsCaller caller rs = rw (← c.self.view_is) at c.requires in
     rw c.in-Some.ensures.gone (named-go c.self.inside.limits c.self.inside.segments.table rs caller c.self.invariant.0.kept is c.args.addr c.in-Some.seg (named g c))
 
-pub after_detach-requires-clause-live : goal.after_detach-requires-clause-live
-after_detach-requires-clause-live g c = (goes g (goal.at.after_detach-requires-clause-live g c).In-Some).live
-
-pub after_detach-requires-clause-orphans : goal.after_detach-requires-clause-orphans
-after_detach-requires-clause-orphans g c = (goes g (goal.at.after_detach-requires-clause-orphans g c).In-Some).kept.orphans
+pub after_detach-requires : goal.after_detach-requires
+after_detach-requires g c = swept-may _ _ _ (goes g (goal.at.after_detach-requires g c).In-Some)
 
 pub invariant_of-self : goal.invariant_of-self
 invariant_of-self g c = rw c.in_default.ensures.none c.self.invariant
@@ -28,7 +25,7 @@ invariant_of-self g c = rw c.in_default.ensures.none c.self.invariant
 pub invariant_of-self-2 : goal.invariant_of-self-2
 invariant_of-self-2 g c = (
   (let translated = c.detach.ensures.translated c.self.inside.segments.memory c.self.invariant.0.translated in
-      c.after_detach.ensures.well c.self.inside.limits (well-gone _ _ _ _ _ _ _ _ c.self.invariant.0 (goes g (goal.at.invariant_of-self-2 g c).In-Some) translated)),
+      c.after_detach.ensures.well c.self.inside.limits (well-kept _ _ _ _ _ _ _ _ c.self.invariant.0 (goes g (goal.at.invariant_of-self-2 g c).In-Some).kept translated)),
   c.detach.ensures.most ∙ c.self.invariant.1,
   c.self.invariant.2,
 )

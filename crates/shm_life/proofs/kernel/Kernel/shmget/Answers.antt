@@ -1,5 +1,4 @@
-use Rattle.std.proofs.Common.{ne_eqb}
-use Rattle.shm_life.proofs.Names.{Machine, sizes, sym}
+use Rattle.shm_life.proofs.Names.{Machine, sizes, sym, ne_eqb}
 use Rattle.shm_life.proofs.Running.{answered_as}
 use Rattle.shm_life.proofs.kernel.Kernel.shmget.Goals as goal
 

@@ -1,6 +1,4 @@
-use Rattle.shm_life.proofs.Names.{rules, ◌≡◌, None, sym, ap, refl, ◌∙◌, arith, Machine, Outcome, gives, swapoff, is_refusal, Done, caller_seen, sizes, StoreView}
-use Rattle.std.proofs.Common.{slice_set}
-use Rattle.shm_base.specs.Segments.{slots}
+use Rattle.shm_life.proofs.Names.{rules, ◌≡◌, None, sym, ap, refl, ◌∙◌, arith, Machine, Outcome, gives, swapoff, is_refusal, Done, caller_seen, sizes, StoreView, slice_set, slots}
 use Rattle.shm_life.proofs.Swapping.{IsThere, is_there, off-few, off-done}
 use Rattle.shm_life.proofs.Running.{failing, granted, kept_refl, refused_as, ok_fact, err_fact, none-failed, one-failed}
 use Rattle.shm_life.proofs.kernel.Kernel.swapoff.Given.{Over}

@@ -1,5 +1,4 @@
-use Rattle.shm_life.proofs.Names.{rules, ◌≡◌, ◌%◌, List, [], ap, refl, ◌∙◌, length, to_z, of_z, w32, Entry, change, gives, Done, IsFound, relocked, None, lockable, segment_seen, change-index, Head, whole, StoreView}
-use Rattle.shm_base.specs.Step.{unlocks}
+use Rattle.shm_life.proofs.Names.{rules, ◌≡◌, ◌%◌, List, [], ap, refl, ◌∙◌, length, to_z, of_z, w32, Entry, change, gives, Done, IsFound, relocked, None, lockable, segment_seen, change-index, Head, whole, StoreView, unlocks}
 use Rattle.shm_life.proofs.Running.{granted, unlock_keeps}
 use Rattle.shm_life.proofs.Changed.{relocked-well, unlock-few}
 use Rattle.shm_life.proofs.kernel.Kernel.unlock.Goals as goal

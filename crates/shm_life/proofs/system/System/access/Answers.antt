@@ -1,6 +1,4 @@
-use Rattle.shm_life.proofs.Names.{length, refl}
-use Rattle.shm_life.specs.Accessing.{call_of}
-use Rattle.shm_life.specs.SystemState.{time_by}
+use Rattle.shm_life.proofs.Names.{length, refl, call_of, time_by}
 use Rattle.shm_life.proofs.Accessing.{acted, does-kept}
 use Rattle.shm_life.proofs.Counted.{access_counts, access_rises}
 use Rattle.shm_life.proofs.Running.{replied_as}

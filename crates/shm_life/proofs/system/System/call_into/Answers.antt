@@ -1,5 +1,4 @@
-use Rattle.shm_life.proofs.Names.{◌≡◌, refl}
-use Rattle.shm_life.specs.SystemState.{time_by}
+use Rattle.shm_life.proofs.Names.{◌≡◌, refl, time_by}
 use Rattle.shm_life.proofs.Running.{replied_as}
 use Rattle.shm_life.proofs.system.System.call_into.Goals as goal
 

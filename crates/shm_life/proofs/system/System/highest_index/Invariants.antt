@@ -1,6 +1,4 @@
-use Rattle.std.proofs.Common.{◌≡◌, ℕ, ◌≤◌}
-use Rattle.std.specs.Prelude.{None, slice_get}
-use Rattle.shm_segments.specs.Table.{segment_in}
+use Rattle.shm_life.proofs.Names.{◌≡◌, ℕ, ◌≤◌, segment_in, None, slice_get}
 use Rattle.shm_life.proofs.system.System.highest_index.Given as goal
 
 -- no segment holds an index from here on

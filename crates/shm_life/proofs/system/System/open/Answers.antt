@@ -1,7 +1,4 @@
-use Rattle.std.proofs.Common.{length, refl, true, ◌≡◌, ◌∙◌, arith}
-use Rattle.std.proofs.lemmas.List.Elements.{All-nil}
-use Rattle.shm_base.specs.Guest.{is_range}
-use Rattle.shm_base.specs.declared.guest.HostRange.{HostRange}
+use Rattle.shm_life.proofs.Names.{length, refl, true, ◌≡◌, ◌∙◌, arith, All-nil, is_range, HostRange}
 use Rattle.shm_life.proofs.Opens.{is_open, sizes-new, owners-new, fresh-kept}
 use Rattle.shm_life.proofs.system.System.open.Goals as goal
 

@@ -1,5 +1,4 @@
-use Rattle.shm_segments.proofs.Names.{ap, ◌∙◌, sym, held, SegmentsView}
-use Rattle.shm_segments.specs.Table.{next_id}
+use Rattle.shm_segments.proofs.Names.{ap, ◌∙◌, sym, held, SegmentsView, next_id}
 use Rattle.shm_segments.proofs.Looking.{next-joined}
 use Rattle.shm_segments.proofs.segments.Segments.next_id.Goals as goal
 
