@@ -3,6 +3,7 @@ use Rattle.std.specs.Prelude.{ℕ, ◌==◌, ◌&&◌, ◌||◌, Bool, false, no
 use Rattle.std.specs.Str.{bytes_eq}
 use Rattle.shm_base.specs.History.{is_refusal}
 use Rattle.shm_base.specs.declared.call.Reply.{Reply}
+use Rattle.shm_schedules.specs.Cuts.{is_any}
 use Rattle.shm_schedules.specs.Text.{reply_words}
 use Rattle.shm_conditions.specs.declared.naming.ProcessLine.{ProcessLine}
 
@@ -14,12 +15,6 @@ pub data Condition : Type 0 where
   Either : Condition → Condition → Condition
 
 -- REPLIES
-
--- a single question mark
-abbrev pub is_any : List ℕ → Bool
-is_any [] = false
-is_any (c ∷ []) = c == 63
-is_any (c ∷ d ∷ cs) = false
 
 -- the word is one of a text's words, of which the first begins with these bytes
 abbrev pub has_word_from : List ℕ → List ℕ → List ℕ → Bool

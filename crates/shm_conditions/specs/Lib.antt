@@ -1,6 +1,5 @@
 pub mod Codes
 pub mod Conditions
-pub mod Cuts
 pub mod Formulas
 pub mod Levels
 pub mod Naming

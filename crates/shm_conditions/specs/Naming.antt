@@ -5,7 +5,7 @@ use Rattle.shm_text.specs.Number.{decimal_of}
 use Rattle.shm_text.specs.Script.{ScriptView}
 use Rattle.shm_text.specs.declared.script.Line.{Line}
 use Rattle.shm_text.specs.declared.script.Line.TheVariants.{Command, Flush}
-use Rattle.shm_conditions.specs.Cuts.{past, until}
+use Rattle.shm_schedules.specs.Cuts.{past, until}
 use Rattle.shm_conditions.specs.declared.fault.ConditionFaultKind.{ConditionFaultKind}
 use Rattle.shm_conditions.specs.declared.fault.ConditionFaultKind.TheVariants.{BadWord, UnknownProcess, UnknownLine}
 use Rattle.shm_conditions.specs.declared.naming.ProcessLine.{ProcessLine}

@@ -2,7 +2,6 @@
 #![tactic(auto)]
 
 mod condition;
-mod cuts;
 mod fault;
 mod formula;
 mod levels;

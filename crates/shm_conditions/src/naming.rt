@@ -2,9 +2,9 @@
 ghost use Rattle.std.specs.Prelude.{◌≡◌};
 ghost use Rattle.shm_conditions.specs.Naming.{count_lines, line_in, line_named, place_from, reply_in};
 
-use crate::cuts::{past, until};
 use crate::fault::ConditionFaultKind;
 use shm_base::Process;
+use shm_schedules::{past, until};
 use shm_text::{Line, Script, read_decimal};
 
 /// A line of a process: the place of the process in the script, and the place of the line among those of the process.

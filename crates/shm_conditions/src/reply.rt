@@ -1,21 +1,11 @@
 //! Whether a word is one of a reply.
 ghost use Rattle.std.specs.Prelude.{◌≡◌, [], IfOk};
 ghost use Rattle.std.specs.Str.{bytes_eq};
-ghost use Rattle.shm_conditions.specs.Conditions.{fits, has_word_from, is_any};
+ghost use Rattle.shm_conditions.specs.Conditions.{fits, has_word_from};
 
 use shm_base::Reply;
-use shm_schedules::{is_refusal, reply_words};
+use shm_schedules::{is_any, is_refusal, reply_words};
 use std::alloc::{AllocError, Global};
-
-fn is_any(word: &[u8]) -> bool
-    ensures { result ≡ is_any word.now }
-{
-    match word {
-        [] => false,
-        [only] => *only == b'?',
-        [_, _, ..] => false,
-    }
-}
 
 fn is_same(word: &[u8], other: &[u8]) -> bool
     ensures { result ≡ bytes_eq word.now other.now }

@@ -1,26 +1,5 @@
 -- Schedules that are drawn.
-use Rattle.std.specs.Prelude.{◌≡◌, ◌<◌, ◌≤◌, ℕ, suc, ◌+◌, ◌-◌, ◌==◌, ◌&&◌, Bool, true, false, cond, if◌then◌else◌, List, [], ◌∷◌, ◌++◌, map, All, length, Option, Some, None, option_map}
-use Rattle.std.proofs.Common.{ap, refl, sym, subst, ◌∙◌, arith, inl, inr, length-append}
-use Rattle.std.proofs.lemmas.Bool.{cases_Bool}
-use Rattle.std.proofs.lemmas.List.{map-append}
-use Rattle.std.proofs.lemmas.List.Elements.{All-append, All-contains, filter-append}
-use Rattle.std.proofs.lemmas.Option.{none-some}
-use Rattle.rand_core.specs.Stream.{Stream}
-use Rattle.shm_base.specs.History.{own_part}
-use Rattle.shm_base.specs.Processes.{has_pid}
-use Rattle.shm_base.specs.Step.{step}
-use Rattle.shm_base.specs.Calls.{ProcessCall}
-use Rattle.shm_base.specs.declared.call.Event.{Event}
-use Rattle.shm_base.specs.declared.call.Process.{Process}
-use Rattle.shm_base.specs.declared.call.Reply.{Reply}
-use Rattle.shm_text.specs.Script.{ScriptView}
-use Rattle.shm_text.specs.Variables.{no_values, values_after}
-use Rattle.shm_text.specs.declared.script.Line.{Line}
-use Rattle.shm_text.specs.declared.script.Line.TheVariants.{Command, Flush}
-use Rattle.shm_judge.specs.Sampling.{AreSamples, IsDrawn, IsPutSample, IsSample, LeadsDrawn, below, one_turn, turns, turns_of}
-use Rattle.shm_schedules.specs.Schedules.{Run, after, goes, is_live, next, next_call, replies_to, reply_of, Leads, IsOver, schedule_of, followers}
-use Rattle.shm_judge.specs.declared.sampling.Turn.{Turn}
-use Rattle.shm_schedules.proofs.Walking.{goes-schedule, has-cases, none-over}
+use Rattle.shm_judge.proofs.Names.{◌≡◌, ◌<◌, ◌≤◌, ℕ, suc, ◌+◌, ◌-◌, ◌==◌, ◌&&◌, Bool, true, false, cond, if◌then◌else◌, List, [], ◌∷◌, ◌++◌, map, All, length, Option, Some, None, option_map, ap, refl, sym, subst, ◌∙◌, arith, inl, inr, length-append, cases_Bool, map-append, All-append, All-contains, filter-append, none-some, Stream, own_part, has_pid, step, ProcessCall, Event, Process, Reply, ScriptView, no_values, values_after, Line, Command, Flush, AreSamples, IsDrawn, IsPutSample, IsSample, LeadsDrawn, below, one_turn, turns, turns_of, Run, after, goes, is_live, next, next_call, replies_to, reply_of, Leads, IsOver, schedule_of, followers, Turn, goes-schedule, has-cases, none-over}
 
 -- WHO CAN GO ON
 

@@ -1,13 +1,5 @@
 -- The lines of a log, from a place on.
-use Rattle.std.specs.Prelude.{◌≡◌, ◌<◌, ℕ, ◌+◌, ◌==◌, List, [], ◌∷◌, ◌++◌, length, Result, Ok, Err}
-use Rattle.std.proofs.Common.{ap, refl, sym, ◌∙◌, arith, inl, inr}
-use Rattle.std.proofs.lemmas.Bool.{cases_Bool}
-use Rattle.shm_base.specs.declared.call.Process.{Process}
-use Rattle.shm_judge.specs.Logs.{Entry}
-use Rattle.shm_judge.specs.Reading.{IsSaid, all_before, entries_from, joined, line_says, lines_in, past, until, with_first}
-use Rattle.shm_judge.specs.Refusals.{IsRefusedLog}
-use Rattle.shm_judge.specs.declared.fault.LogFault.{LogFault}
-use Rattle.shm_judge.specs.declared.fault.LogRefused.{LogRefused}
+use Rattle.shm_judge.proofs.Names.{◌≡◌, ◌<◌, ℕ, ◌+◌, ◌==◌, List, [], ◌∷◌, ◌++◌, length, Result, Ok, Err, ap, refl, sym, ◌∙◌, arith, inl, inr, cases_Bool, Process, Entry, IsSaid, all_before, entries_from, joined, line_says, lines_in, with_first, past, until, IsRefusedLog, LogFault, LogRefused}
 use Rattle.shm_judge.specs.declared.fault.LogRefused.TheVariants as refusals
 
 -- the first line, and those after it

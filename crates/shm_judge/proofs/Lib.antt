@@ -1,3 +1,4 @@
+pub mod Names
 pub mod Verdicts
 pub mod Entries
 pub mod Drawing

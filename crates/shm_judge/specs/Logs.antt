@@ -1,10 +1,11 @@
 -- The replies of a system to each process, and whether a run has them.
-use Rattle.std.specs.Prelude.{◌≡◌, ◌<◌, ◌==◌, ℕ, Bool, true, false, List, [], ◌∷◌, length, slice_index_or}
+use Rattle.std.specs.Prelude.{◌≡◌, ◌<◌, ℕ, Bool, true, false, List, [], ◌∷◌, length, slice_index_or}
 use Rattle.shm_base.specs.History.{is_refusal}
 use Rattle.shm_base.specs.declared.call.Event.{Event}
 use Rattle.shm_base.specs.declared.call.Process.{Process}
 use Rattle.shm_base.specs.declared.call.Reply.{Reply}
 use Rattle.shm_text.specs.Script.{ScriptView}
+use Rattle.shm_schedules.specs.Cuts.{is_any}
 use Rattle.shm_schedules.specs.Schedules.{replies_to}
 use Rattle.shm_schedules.specs.Text.{reply_words}
 
@@ -17,12 +18,6 @@ pub record Answer : Type 0 where
 pub record Entry : Type 0 where
   pub pid : ℕ
   pub answer : Answer
-
--- a single question mark
-abbrev pub is_any : List ℕ → Bool
-is_any [] = false
-is_any (c ∷ []) = c == 63
-is_any (c ∷ d ∷ cs) = false
 
 abbrev pub FitsAs : Bool → List ℕ → Reply → Type 0
 FitsAs true words reply = is_refusal reply ≡ false

@@ -1,21 +1,13 @@
 -- Reading a log, line by line.
 use Rattle.std.specs.Prelude.{◌≡◌, ℕ, ◌+◌, ◌==◌, Bool, true, is_some, if◌then◌else◌, List, [], ◌∷◌, ◌++◌, map, filter, length, Option, Some, None, Result, Ok, Err}
 use Rattle.shm_base.specs.declared.call.Process.{Process}
+use Rattle.shm_schedules.specs.Cuts.{past, until}
 use Rattle.shm_text.specs.Number.{decimal_of}
 use Rattle.shm_text.specs.Script.{ScriptView}
 use Rattle.shm_judge.specs.Logs.{Answer, Entry}
 use Rattle.shm_judge.specs.declared.fault.LogFault.{LogFault}
 use Rattle.shm_judge.specs.declared.fault.LogFaultKind.{LogFaultKind}
 use Rattle.shm_judge.specs.declared.fault.LogFaultKind.TheVariants.{BadLine, UnknownProcess}
-
--- the bytes before the first such byte, and those after it
-abbrev pub until : ℕ → List ℕ → List ℕ
-until c [] = []
-until c (b ∷ bs) = if b == c then [] else b ∷ until c bs
-
-abbrev pub past : ℕ → List ℕ → List ℕ
-past c [] = []
-past c (b ∷ bs) = if b == c then bs else past c bs
 
 -- a line without its place, if it has one: then its second word is a number too
 abbrev pub bare : List ℕ → List ℕ

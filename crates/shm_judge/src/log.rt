@@ -1,10 +1,10 @@
 //! The replies of a system to each process.
 ghost use Rattle.std.specs.Prelude.{◌≡◌, ◌↔◌, IsTrue, IfNone, IfOk, IfSome, length, slice_index_or, [], List};
 ghost use Rattle.shm_schedules.specs.Schedules.{replies_to};
-ghost use Rattle.shm_judge.specs.Logs.{AllBegin, AllFill, Begins, Fits, is_any};
+ghost use Rattle.shm_judge.specs.Logs.{AllBegin, AllFill, Begins, Fits};
 
 use shm_base::{Event, Reply};
-use shm_schedules::{is_refusal, reply_words};
+use shm_schedules::{is_any, is_refusal, reply_words};
 use shm_text::Script;
 use std::alloc::{AllocError, Global};
 use std::marker::Model;
@@ -37,17 +37,6 @@ impl Model for Entry {
     ghost Value = { Entry };
 
     ghost view = { λ e. record { pid = e.pid; answer = e.answer } };
-}
-
-// Whether the words are a single question mark.
-fn is_any(words: &[u8]) -> bool
-    ensures { result ≡ is_any words.now }
-{
-    match words {
-        [] => false,
-        [only] => *only == b'?',
-        [_, _, ..] => false,
-    }
 }
 
 fn are_same_bytes(bytes: &[u8], others: &[u8]) -> bool

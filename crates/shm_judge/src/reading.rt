@@ -1,45 +1,17 @@
 //! Reads a log line by line. A line has a process, a call, and a reply after `= `, as outcomes are printed; a
 //! place may precede them. The script says what the call is, so the reader ignores the line's words for it.
-ghost use Rattle.std.specs.Prelude.{◌≡◌, ◌+◌, ◌≤◌, IfErr, IfOk, OnOk, Ok, drop, length, take};
+ghost use Rattle.std.specs.Prelude.{◌≡◌, IfErr, IfOk, OnOk, Ok};
 ghost use Rattle.shm_text.specs.Number.{decimal_of};
-ghost use Rattle.shm_judge.specs.Reading.{IsSaid, bare, declared_as, entries_of, is_skipped, line_says, log_of, own_answers, past, reply_in, said, until};
+ghost use Rattle.shm_judge.specs.Reading.{IsSaid, bare, declared_as, entries_of, is_skipped, line_says, log_of, own_answers, reply_in, said};
+ghost use Rattle.shm_schedules.specs.Cuts.{until};
 ghost use Rattle.shm_judge.specs.Refusals.{IsRefusedLog};
 
 use crate::fault::{LogFault, LogFaultKind, LogRefused};
 use crate::log::{Answer, Answers, Entry, Log};
 use shm_base::Process;
+use shm_schedules::{past, until};
 use shm_text::{Script, read_decimal};
 use std::alloc::{AllocError, Global};
-
-// The index of the first such byte, or of the end.
-fn place_of(byte: u8, bytes: &[u8]) -> usize
-    ensures bound { result ≤ length bytes.now }
-    ensures until { take result bytes.now ≡ until byte bytes.now }
-    ensures past { drop (result + 1) bytes.now ≡ past byte bytes.now }
-{
-    let mut place = 0;
-    while place < bytes.len() && bytes[place] != byte {
-        place += 1;
-    }
-    place
-}
-
-fn until(byte: u8, bytes: &[u8]) -> &[u8]
-    ensures { result.now ≡ until byte bytes.now }
-{
-    &bytes[..place_of(byte, bytes)]
-}
-
-fn past(byte: u8, bytes: &[u8]) -> &[u8]
-    ensures value { result.now ≡ past byte bytes.now }
-    ensures shorter { 1 ≤ length bytes.now → length result.now + 1 ≤ length bytes.now }
-{
-    let place = place_of(byte, bytes);
-    if place == bytes.len() {
-        return &[];
-    }
-    &bytes[place + 1..]
-}
 
 fn first_number(line: &[u8]) -> Option<u64>
     ensures { result ≡ decimal_of (until 32 line.now) }

@@ -1,20 +1,5 @@
 -- Adding states one after another.
-use Rattle.std.specs.Prelude.{◌≡◌, ◌<◌, ℕ, suc, zero, ◌+◌, List, [], ◌∷◌, ◌++◌, take, drop, length, map, slice_index_or, Contains}
-use Rattle.std.proofs.Common.{refl, sym, ap, subst, ◌∙◌, arith}
-use Rattle.std.proofs.lemmas.List.{map-append}
-use Rattle.std.specs.Map.{keys_of, values_of}
-use Rattle.shm_base.specs.declared.call.Process.{Process}
-use Rattle.shm_text.specs.Script.{ScriptView}
-use Rattle.shm_outcomes.specs.Frontier.{AreAdded, AreExpanded, AreTooMany, Frontier, IsAdded, IsExpanded, IsOneTooMany, IsStopped, Path, State, empty_frontier, path, path_after, path_in, paths_after, state_in, states_in}
-use Rattle.shm_outcomes.specs.Search.{IfBound}
-use Rattle.shm_schedules.specs.Schedules.{Run}
-use Rattle.shm_schedules.specs.Finding.{Finding}
-use Rattle.shm_outcomes.specs.declared.transitions.Transition.{Transition}
-use Rattle.shm_schedules.specs.declared.search_error.SearchError.{SearchError}
-use Rattle.shm_schedules.specs.declared.search_error.SearchError.TheVariants.{HostMemory, Bound}
-use Rattle.shm_outcomes.specs.Groups.{AreAllTransitions, ArePut, Groups, no_groups}
-use Rattle.shm_outcomes.specs.Levels.{IsLevelFull, Level}
-use Rattle.std.proofs.lemmas.List.{get_or_default}
+use Rattle.shm_outcomes.proofs.Names.{◌≡◌, ◌<◌, ℕ, suc, zero, ◌+◌, List, [], ◌∷◌, ◌++◌, take, drop, length, map, slice_index_or, Contains, refl, sym, ap, subst, ◌∙◌, arith, map-append, keys_of, values_of, Process, ScriptView, AreAdded, AreExpanded, AreTooMany, Frontier, IsAdded, IsExpanded, IsOneTooMany, IsStopped, Path, State, empty_frontier, path, path_after, path_in, paths_after, state_in, states_in, IfBound, Run, Finding, Transition, SearchError, HostMemory, Bound, AreAllTransitions, ArePut, Groups, no_groups, IsLevelFull, Level, get_or_default}
 
 -- STATES WITH THEIR SCHEDULES
 

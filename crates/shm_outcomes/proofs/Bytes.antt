@@ -1,13 +1,5 @@
 -- Bytes that are written at different places may be written in either order; at one place the last counts.
-use Rattle.std.specs.Prelude.{◌≡◌, ◌≢◌, ℕ, ◌%◌, suc, zero, true, false, List, [], ◌∷◌, ◌++◌, filter, Option, Some, None, slice_get, slice_set, option_map}
-use Rattle.std.proofs.Common.{refl, ap, sym, subst, ◌∙◌, arith, inl, inr}
-use Rattle.std.proofs.lemmas.Bool.{cases_Bool, cases_eq}
-use Rattle.std.proofs.lemmas.Grind.{common_steps}
-use Rattle.shm_base.specs.Access.{byte_set, entry_byte_set, set_in}
-use Rattle.shm_base.specs.Segments.{attach_all, attached, change, with_entry}
-use Rattle.shm_base.specs.State.{Entry, Machine, Segment}
-use Rattle.shm_outcomes.specs.Changes.{is_above, is_below, put}
-use Rattle.shm_outcomes.specs.declared.effects.Write.{Write}
+use Rattle.shm_outcomes.proofs.Names.{◌≡◌, ◌≢◌, ℕ, ◌%◌, suc, zero, true, false, List, [], ◌∷◌, ◌++◌, filter, Option, Some, None, slice_get, slice_set, option_map, refl, ap, sym, subst, ◌∙◌, arith, inl, inr, cases_Bool, cases_eq, common_steps, byte_set, entry_byte_set, set_in, attach_all, attached, change, with_entry, Entry, Machine, Segment, is_above, is_below, put, Write}
 
 -- ONE ELEMENT OF A LIST
 

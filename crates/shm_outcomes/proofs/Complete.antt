@@ -1,27 +1,8 @@
 -- The levels of a search, and what it has when none is left.
-use Rattle.std.specs.Prelude.{◌≡◌, ◌<◌, ◌≤◌, ℕ, suc, zero, ◌+◌, ◌-◌, List, [], ◌∷◌, ◌++◌, map, All, Contains, length, slice_index_or, Some}
-use Rattle.std.specs.List.{AllPairs}
-use Rattle.std.proofs.Common.{refl, sym, ap, subst, ◌∙◌, arith, inl, inr, length-append}
-use Rattle.std.proofs.lemmas.Bool.{cases_eq, cases_lt}
-use Rattle.std.proofs.lemmas.List.{append-nil, append_assoc, get_or-map, get_or_append_left, get_or-append_right, get_or_default, length-map}
-use Rattle.std.proofs.lemmas.List.Elements.{All-append, All-cons, All-contains, All-head, All-nil, All-tail, Contains-append_right}
-use Rattle.shm_base.specs.State.{Machine}
-use Rattle.shm_base.specs.declared.call.Event.{Event}
-use Rattle.shm_text.specs.Script.{ScriptView}
-use Rattle.shm_outcomes.specs.Nodes.{root}
-use Rattle.shm_outcomes.specs.Groups.{IsAt, Groups, relevant_key, group_key_of}
-use Rattle.shm_outcomes.specs.Keys.{AreMoreKeys, AreOther, IsKeyOf, Key, key_of}
-use Rattle.shm_outcomes.specs.Levels.{IsLevelFull, IsNextLevel, Level, first_level}
-use Rattle.shm_schedules.specs.declared.search_error.SearchError.{SearchError}
-use Rattle.shm_outcomes.specs.Frontier.{State, Path, state, state_in, states_in, empty_frontier, path}
-use Rattle.shm_schedules.specs.Outcomes.{outcome_of}
-use Rattle.shm_schedules.specs.Schedules.{Run, fresh, goes, IsOver, Leads, schedule_of, IsReached}
-use Rattle.shm_outcomes.specs.Search.{AreMoreRuns, AreOutcomes, IfBound, IsCause, IsFinding, outcomes_in}
-use Rattle.shm_schedules.specs.Finding.{Finding}
+use Rattle.shm_outcomes.proofs.Names.{◌≡◌, ◌<◌, ◌≤◌, ℕ, suc, zero, ◌+◌, ◌-◌, List, [], ◌∷◌, ◌++◌, map, All, Contains, length, slice_index_or, Some, AllPairs, refl, sym, ap, subst, ◌∙◌, arith, inl, inr, length-append, cases_eq, cases_lt, append-nil, append_assoc, get_or-map, get_or_append_left, get_or-append_right, get_or_default, length-map, All-append, All-cons, All-contains, All-head, All-nil, All-tail, Contains-append_right, Machine, Event, ScriptView, root, IsAt, Groups, relevant_key, group_key_of, AreMoreKeys, AreOther, IsKeyOf, Key, key_of, IsLevelFull, IsNextLevel, Level, first_level, SearchError, State, Path, state, state_in, states_in, empty_frontier, path, outcome_of, Run, fresh, goes, IsOver, Leads, schedule_of, IsReached, AreMoreRuns, AreOutcomes, IfBound, IsCause, IsFinding, outcomes_in, Finding, follower-reached, goes-length, goes-schedule}
 use Rattle.shm_outcomes.proofs.Adding.{if-bound}
 use Rattle.shm_outcomes.proofs.Grouping.{AreGroups, IsGroup, IsOne, at-once, group-of, next-groups, one-long}
 use Rattle.shm_outcomes.proofs.Searching.{AreKnown, AreStates, HasOne, IsPath, Steps, adds-all, states-push, no-paths, step-all, paths-reach}
-use Rattle.shm_schedules.proofs.Walking.{follower-reached, goes-length, goes-schedule}
 
 -- SCHEDULES
 

@@ -1,18 +1,5 @@
 -- Runs with one key are equivalent: they continue by the same calls, to runs with one key.
-use Rattle.std.specs.Prelude.{◌≡◌, ℕ, ◌++◌, ◌∷◌, [], length, Option, Some, None, option_map}
-use Rattle.std.proofs.Common.{refl, sym, ap, ◌∙◌}
-use Rattle.std.proofs.lemmas.Option.{none-some}
-use Rattle.shm_base.specs.State.{Machine}
-use Rattle.shm_base.specs.Calls.{ProcessCall}
-use Rattle.shm_text.specs.Script.{ScriptView}
-use Rattle.shm_outcomes.specs.Nodes.{Node, event_after, successor, key_at}
-use Rattle.shm_outcomes.specs.Changes.{effects_after}
-use Rattle.shm_outcomes.specs.Groups.{relevant_key}
-use Rattle.shm_outcomes.specs.Keys.{Key, key_of}
-use Rattle.shm_schedules.specs.Outcomes.{outcome_of, replies_after}
-use Rattle.shm_schedules.specs.Schedules.{Run, after, fresh, goes, next, IsOver, IsReached}
-use Rattle.shm_schedules.proofs.Going.{replies-after, replies-same}
-use Rattle.shm_schedules.proofs.Walking.{follower-reached, made-by}
+use Rattle.shm_outcomes.proofs.Names.{◌≡◌, ℕ, ◌++◌, ◌∷◌, [], length, Option, Some, None, option_map, refl, sym, ap, ◌∙◌, none-some, Machine, ProcessCall, ScriptView, Node, event_after, successor, key_at, effects_after, relevant_key, Key, key_of, outcome_of, replies_after, Run, after, fresh, goes, next, IsOver, IsReached, replies-after, replies-same, follower-reached, made-by}
 use Rattle.shm_outcomes.proofs.Relevance.{GoSame, after-same, go-same, next-same, reply-same}
 use Rattle.shm_outcomes.proofs.Replaying.{reached-next}
 

@@ -1,30 +1,8 @@
 -- Groups of runs, and their continuations.
-use Rattle.std.specs.Prelude.{◌≡◌, ◌<◌, ◌⊎◌, ℕ, suc, zero, ◌+◌, true, take, List, [], ◌∷◌, ◌++◌, map, length, option_map, Option, Some, None, All, Contains, slice_index_or}
-use Rattle.std.specs.List.{AllPairs}
-use Rattle.std.proofs.Common.{refl, ap, sym, subst, ◌∙◌, arith, inl, inr, length-append}
-use Rattle.std.proofs.lemmas.List.{append-nil, get_or_append_left, get_or_push, map-append}
-use Rattle.std.proofs.lemmas.List.Elements.{All-append, All-cons, All-contains, All-more, All-nil, All-push, All-weaker, Contains-append_left, Contains-get_or, Contains-push}
-use Rattle.std.proofs.lemmas.List.Quantifiers.{all_pairs_push}
-use Rattle.std.proofs.lemmas.Bool.{cases_lt}
-use Rattle.std.proofs.lemmas.Option.{none-some, same_Some}
-use Rattle.shm_base.specs.Processes.{has_pid}
-use Rattle.shm_base.specs.State.{Machine}
-use Rattle.shm_base.specs.Calls.{ProcessCall}
-use Rattle.shm_base.specs.declared.call.Event.{Event}
-use Rattle.shm_base.specs.declared.call.Process.{Process}
-use Rattle.shm_text.specs.Script.{ScriptView}
-use Rattle.shm_outcomes.specs.Nodes.{Node, event_after, key_at, successor}
-use Rattle.shm_outcomes.specs.Groups.{AreAllTransitions, AreTransitions, ArePut, Continues, Groups, IsAt, IsExtended, IsFrom, IsPut, IsTransition, StayThere, group_key_at, group_key_of, no_groups, relevant_key}
-use Rattle.shm_outcomes.specs.Keys.{AreOther, Key, key_of}
-use Rattle.shm_outcomes.specs.Frontier.{State, state}
-use Rattle.shm_schedules.specs.Outcomes.{outcome_of, replies_after}
-use Rattle.shm_schedules.specs.Schedules.{Run, after, fresh, goes, next, IsOver, IsReached}
-use Rattle.shm_outcomes.specs.declared.transitions.Transition.{Transition}
+use Rattle.shm_outcomes.proofs.Names.{◌≡◌, ◌<◌, ◌⊎◌, ℕ, suc, zero, ◌+◌, true, take, List, [], ◌∷◌, ◌++◌, map, length, option_map, Option, Some, None, All, Contains, slice_index_or, AllPairs, refl, ap, sym, subst, ◌∙◌, arith, inl, inr, length-append, append-nil, get_or_append_left, get_or_push, map-append, All-append, All-cons, All-contains, All-more, All-nil, All-push, All-weaker, Contains-append_left, Contains-get_or, Contains-push, all_pairs_push, cases_lt, none-some, same_Some, has_pid, Machine, ProcessCall, Event, Process, ScriptView, Node, event_after, key_at, successor, AreAllTransitions, AreTransitions, ArePut, Continues, Groups, IsAt, IsExtended, IsFrom, IsPut, IsTransition, StayThere, group_key_at, group_key_of, no_groups, relevant_key, AreOther, Key, key_of, State, state, outcome_of, replies_after, Run, after, fresh, goes, next, IsOver, IsReached, Transition, replies-after, replies-same, follower-reached, has-cases, made-by, goes-length, test-first}
 use Rattle.shm_outcomes.proofs.Adding.{at-index}
 use Rattle.shm_outcomes.proofs.Equivalence.{successor-key}
-use Rattle.shm_schedules.proofs.Going.{replies-after, replies-same}
 use Rattle.shm_outcomes.proofs.Relevance.{GoSame, after-same, go-same, next-same, reply-same, same-group-key}
-use Rattle.shm_schedules.proofs.Walking.{follower-reached, has-cases, made-by, goes-length, test-first}
 
 -- PLACES
 

@@ -1,14 +1,5 @@
 -- Outcomes lose their identifiers and addresses one by one.
-use Rattle.std.specs.Prelude.{◌≡◌, ◌<◌, ℕ, suc, zero, ◌+◌, List, [], ◌∷◌, All, Contains, length, take, slice_index_or}
-use Rattle.std.proofs.Common.{refl, sym, ap, subst, arith, inl, inr}
-use Rattle.std.proofs.lemmas.List.Elements.{All-contains, All-more, All-push, All-weaker, Contains-get_or}
-use Rattle.shm_base.specs.declared.call.Reply.{Reply}
-use Rattle.shm_text.specs.Script.{ScriptView}
-use Rattle.shm_outcomes.specs.Masking.{AreMaskedOutcomes, IsMaskedFinding, hidden_finding, hidden_outcome}
-use Rattle.shm_schedules.specs.Outcomes.{outcome_of}
-use Rattle.shm_schedules.specs.Schedules.{Run, IsSchedule}
-use Rattle.shm_outcomes.specs.Search.{AreDistinct, AreOutcomes, IsFinding, IsInserted, outcomes_in}
-use Rattle.shm_schedules.specs.Finding.{Finding}
+use Rattle.shm_outcomes.proofs.Names.{◌≡◌, ◌<◌, ℕ, suc, zero, ◌+◌, List, [], ◌∷◌, All, Contains, length, take, slice_index_or, refl, sym, ap, subst, arith, inl, inr, All-contains, All-more, All-push, All-weaker, Contains-get_or, Reply, ScriptView, AreMaskedOutcomes, IsMaskedFinding, hidden_finding, hidden_outcome, outcome_of, Run, IsSchedule, AreDistinct, AreOutcomes, IsFinding, IsInserted, outcomes_in, Finding}
 use Rattle.shm_outcomes.proofs.Searching.{inserted-distinct, inserted-keeps, inserted-there}
 
 abbrev IsHiddenOf : List Finding → Finding → Type 0

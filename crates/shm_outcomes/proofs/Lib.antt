@@ -1,3 +1,4 @@
+pub mod Names
 pub mod Searching
 pub mod Bytes
 pub mod Replaying

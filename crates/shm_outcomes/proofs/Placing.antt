@@ -1,17 +1,5 @@
 -- Things in a map whose keys are equal only if they are the same.
-use Rattle.std.specs.Prelude.{◌≡◌, ℕ, List, [], ◌∷◌, ◌++◌, Option, Some, None, Bool, true, false, map, Contains, IsTrue, is_some}
-use Rattle.std.specs.Bool.{Decides}
-use Rattle.std.specs.Map.{keys_of}
-use Rattle.std.proofs.Common.{refl, ap, sym, ◌∙◌, true≢false}
-use Rattle.std.proofs.lemmas.List.Quantifiers.{position-Some}
-use Rattle.std.proofs.lemmas.Map.Made.{is_member-Decides, is_some-lookup}
-use Rattle.indexmap.specs.IndexMap.{IndexMap, get, index_of, insert_entry, keys}
-use Rattle.indexmap.proofs.CallerLemmas.{insert_entry-new}
-use Rattle.shm_base.specs.declared.call.Event.{Event}
-use Rattle.shm_base.specs.declared.call.Reply.{Reply}
-use Rattle.shm_schedules.specs.Finding.{Finding}
-use Rattle.shm_outcomes.specs.Groups.{IsAt}
-use Rattle.shm_outcomes.specs.Search.{outcomes_in}
+use Rattle.shm_outcomes.proofs.Names.{◌≡◌, ℕ, List, [], ◌∷◌, ◌++◌, Option, Some, None, Bool, true, false, map, Contains, IsTrue, is_some, Decides, keys_of, refl, ap, sym, ◌∙◌, true≢false, position-Some, is_member-Decides, is_some-lookup, IndexMap, get, index_of, insert_entry, keys, insert_entry-new, Event, Reply, Finding, IsAt, outcomes_in}
 
 module _ {K V S : Type 0} (eq : K → K → Bool) (same : (a b : K) → Decides (eq a b) (a ≡ b)) (m : IndexMap K V S) (k : K) where
   -- a key is found exactly when it is there

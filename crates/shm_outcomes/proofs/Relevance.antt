@@ -1,32 +1,5 @@
 -- Runs with the same relevant replies have the same continuations.
-use Rattle.std.specs.Prelude.{◌≡◌, ℕ, suc, zero, take, ◌+◌, ◌==◌, ◌&&◌, ◌<◌, drop, slice_index_or, Bool, true, false, not, cond, List, [], ◌∷◌, ◌++◌, map, length, Option, Some, None}
-use Rattle.std.proofs.Common.{refl, ap, sym, subst, ◌∙◌, arith, inl, inr, length-append}
-use Rattle.std.proofs.lemmas.Bool.{cases_Bool, cases_eq}
-use Rattle.std.proofs.lemmas.Grind.{common_steps}
-use Rattle.std.proofs.Math.Seq.{drop-cons}
-use Rattle.std.proofs.lemmas.List.{append-nil, append_assoc}
-use Rattle.shm_base.specs.Processes.{has_pid}
-use Rattle.shm_base.specs.State.{Machine}
-use Rattle.shm_base.specs.Callers.{Outcome, caller_of}
-use Rattle.shm_base.specs.Calls.{ProcessCall}
-use Rattle.shm_base.specs.declared.call.Event.{Event}
-use Rattle.shm_base.specs.declared.call.Process.{Process}
-use Rattle.shm_base.specs.declared.call.Reply.{Reply}
-use Rattle.shm_text.specs.Script.{ScriptView}
-use Rattle.shm_text.specs.Form.{CommandView}
-use Rattle.shm_text.specs.Variables.{no_values, values_after}
-use Rattle.shm_text.specs.declared.script.Line.{Line}
-use Rattle.shm_text.specs.declared.script.Line.TheVariants.{Command, Flush}
-use Rattle.shm_schedules.specs.Alike.{is_change, is_void, looks}
-use Rattle.shm_outcomes.specs.Nodes.{event_after}
-use Rattle.shm_outcomes.specs.Changes.{Effects, effects_by, patch_by, effects_after, effects_of, all_changes}
-use Rattle.shm_outcomes.specs.Groups.{relevant_replies, relevant_all, relevant_reply, group_key_of}
-use Rattle.shm_outcomes.specs.Keys.{Key}
-use Rattle.shm_schedules.specs.Outcomes.{masked, masked_replies}
-use Rattle.shm_schedules.specs.Schedules.{Run, after, fresh, is_live, next, next_call, replies_to, IsReached}
-use Rattle.shm_schedules.specs.Times.{timeless}
-use Rattle.shm_outcomes.specs.declared.effects.Patch.{Patch}
-use Rattle.shm_schedules.proofs.Going.{first-true, map-head, map-tail, masked-next, same-if, same-step, replies-more, replies-one}
+use Rattle.shm_outcomes.proofs.Names.{◌≡◌, ℕ, suc, zero, take, ◌+◌, ◌==◌, ◌&&◌, ◌<◌, drop, slice_index_or, Bool, true, false, not, cond, List, [], ◌∷◌, ◌++◌, map, length, Option, Some, None, refl, ap, sym, subst, ◌∙◌, arith, inl, inr, length-append, cases_Bool, cases_eq, common_steps, drop-cons, append-nil, append_assoc, has_pid, Machine, Outcome, caller_of, ProcessCall, Event, Process, Reply, ScriptView, CommandView, no_values, values_after, Line, Command, Flush, is_change, is_void, looks, event_after, Effects, effects_by, patch_by, effects_after, effects_of, all_changes, relevant_replies, relevant_all, relevant_reply, group_key_of, Key, masked, masked_replies, Run, after, fresh, is_live, next, next_call, replies_to, IsReached, timeless, Patch, first-true, map-head, map-tail, masked-next, same-if, same-step, replies-more, replies-one}
 use Rattle.shm_outcomes.proofs.Replaying.{changed, puts-same, reached-changed, reached-next}
 
 -- RELEVANT REPLIES

@@ -1,40 +1,6 @@
 -- The effects of a run lead to the run's machine.
-use Rattle.std.specs.Prelude.{◌≡◌, ◌≢◌, ℕ, ◌+◌, ◌%◌, ◌^◌, ◌&&◌, Bool, true, false, not, nat_lt, cond, List, [], ◌∷◌, ◌++◌, map, length, Option, Some, None}
-use Rattle.std.proofs.Common.{refl, ap, sym, subst, ◌∙◌, arith, inl, inr, length-append}
-use Rattle.std.proofs.lemmas.Bool.{cases_Bool}
-use Rattle.std.proofs.lemmas.Grind.{common_steps}
-use Rattle.std.proofs.lemmas.List.{append-nil}
-use Rattle.std.proofs.lemmas.Option.{none-some, same_Some}
-use Rattle.std.specs.Int.{w64, to_le_bytes}
-use Rattle.shm_base.specs.Access.{Place, all_writable, joined, loaded, only_writable, place, places, same_bytes, stored}
-use Rattle.shm_base.specs.History.{is_refusal}
-use Rattle.shm_base.specs.Rules.{fork_marks}
-use Rattle.shm_base.specs.Segments.{attach_all}
-use Rattle.shm_base.specs.State.{Entry, Machine}
-use Rattle.shm_base.specs.Callers.{Caller, Outcome, caller_of}
-use Rattle.shm_base.specs.Step.{acts, compare_exchange, exchange, forks, inherited, number_at, segments_of, step, step_by, store, unborn_from, xadd}
-use Rattle.shm_base.specs.Calls.{ProcessCall}
-use Rattle.shm_base.specs.declared.call.Call.TheVariants.{Store, Xadd, Exchange, CompareExchange, Fork}
-use Rattle.shm_base.specs.declared.call.Event.{Event}
-use Rattle.shm_base.specs.declared.call.Reply.{Reply}
-use Rattle.shm_base.specs.declared.call.Reply.TheVariants.{Refused}
-use Rattle.shm_base.specs.declared.errno.Errno.{Errno}
-use Rattle.shm_base.specs.declared.errno.Errno.TheVariants.{Esrch}
-use Rattle.shm_text.specs.Script.{ScriptView}
-use Rattle.shm_schedules.specs.Alike.{is_change, is_void, looks}
-use Rattle.shm_outcomes.specs.Changes.{Effects, all_changes, call_of, fits, is_fork, made, no_effects, effects_by, patch_by, put, put_at, puts, effects_after, effects_from, effects_of, write_at, wrote}
-use Rattle.shm_schedules.specs.Places.{place_by, place_of}
-use Rattle.shm_schedules.specs.Schedules.{Run, after, fresh, next, Leads, schedule_of, IsReached}
-use Rattle.shm_schedules.specs.Times.{timeless}
-use Rattle.shm_outcomes.specs.declared.effects.CallBy.{CallBy}
-use Rattle.shm_outcomes.specs.declared.effects.Change.{Change}
-use Rattle.shm_outcomes.specs.declared.effects.Change.TheVariants.{Made, Wrote}
-use Rattle.shm_outcomes.specs.declared.effects.Patch.{Patch}
-use Rattle.shm_outcomes.specs.declared.effects.Write.{Write}
+use Rattle.shm_outcomes.proofs.Names.{◌≡◌, ◌≢◌, ℕ, ◌+◌, ◌%◌, ◌^◌, ◌&&◌, Bool, true, false, not, nat_lt, cond, List, [], ◌∷◌, ◌++◌, map, length, Option, Some, None, refl, ap, sym, subst, ◌∙◌, arith, inl, inr, length-append, cases_Bool, common_steps, append-nil, none-some, same_Some, w64, to_le_bytes, Place, all_writable, joined, loaded, only_writable, place, places, same_bytes, stored, is_refusal, fork_marks, attach_all, Entry, Machine, Caller, Outcome, caller_of, acts, compare_exchange, exchange, forks, inherited, number_at, segments_of, step, step_by, store, unborn_from, xadd, ProcessCall, Store, Xadd, Exchange, CompareExchange, Fork, Event, Reply, Refused, Errno, Esrch, ScriptView, is_change, is_void, looks, Effects, all_changes, call_of, fits, is_fork, made, no_effects, effects_by, patch_by, put, put_at, puts, effects_after, effects_from, effects_of, write_at, wrote, place_by, place_of, Run, after, fresh, next, Leads, schedule_of, IsReached, timeless, CallBy, Change, Made, Wrote, Patch, Write, event_at, not-first, one-more, still, stored-timeless, times_reach_times, made-by}
 use Rattle.shm_outcomes.proofs.Bytes.{attach-swap, overwritten, put-last, with_write, written}
-use Rattle.shm_schedules.proofs.Going.{event_at, not-first, one-more, still}
-use Rattle.shm_schedules.proofs.Timeless.{stored-timeless, times_reach_times}
-use Rattle.shm_schedules.proofs.Walking.{made-by}
 
 -- THE MACHINE THAT CHANGES LEAD TO
 

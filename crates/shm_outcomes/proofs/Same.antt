@@ -1,12 +1,5 @@
 -- Equality of keys and states.
-use Rattle.std.specs.Prelude.{◌≡◌, Bool}
-use Rattle.std.specs.Bool.{Decides}
-use Rattle.std.specs.Cmp.{unsigned_Decides}
-use Rattle.std.proofs.lemmas.Bool.Decides.{Decides-and, Decides-like}
-use Rattle.shm_schedules.specs.Same.{same-outcomes}
-use Rattle.shm_outcomes.specs.Keys.{Key}
-use Rattle.shm_outcomes.specs.Frontier.{State}
-use Rattle.shm_outcomes.specs.Same.{same-effects}
+use Rattle.shm_outcomes.proofs.Names.{◌≡◌, Bool, Decides, unsigned_Decides, Decides-and, Decides-like, same-outcomes, Key, State, same-effects}
 use Rattle.shm_outcomes.specs.contracts.keys.KeyPartialEq.TheImpl as key
 use Rattle.shm_outcomes.specs.contracts.frontier.StatePartialEq.TheImpl as state
 

@@ -1,24 +1,6 @@
 -- Findings, states and levels: the steps of the search.
-use Rattle.std.specs.Prelude.{◌≡◌, ◌<◌, ◌≤◌, ℕ, suc, zero, ◌+◌, ◌⊎◌, List, [], ◌∷◌, ◌++◌, Option, Some, All, Contains, length, slice_index_or}
-use Rattle.std.specs.List.{AllPairs}
-use Rattle.std.proofs.Common.{refl, sym, ap, subst, ◌∙◌, arith, inl, inr, length-append}
-use Rattle.std.proofs.lemmas.List.{map-append, get_or_append_left, get_or_push}
-use Rattle.std.proofs.lemmas.List.Elements.{All-head, All-map, All-nil, All-push, All-tail, Contains-append_left, Contains-get_or, Contains-push}
-use Rattle.std.proofs.lemmas.List.Quantifiers.{all_pairs_push}
-use Rattle.std.proofs.lemmas.Bool.{cases_lt}
-use Rattle.std.proofs.lemmas.Option.{none-some}
-use Rattle.shm_base.specs.State.{Machine}
-use Rattle.shm_base.specs.declared.call.Reply.{Reply}
-use Rattle.shm_text.specs.Script.{ScriptView}
-use Rattle.shm_outcomes.specs.Groups.{AreAllTransitions, Groups}
-use Rattle.shm_outcomes.specs.Frontier.{AreAdded, AreExpanded, Frontier, IsAdded, IsEndInserted, IsExpanded, Path, State, path_after, paths_after, state_in, states_in}
-use Rattle.shm_schedules.specs.Schedules.{walked, Run, fresh, goes, Leads, IsOver, schedule_of}
-use Rattle.shm_schedules.specs.Outcomes.{outcome_of}
-use Rattle.shm_outcomes.specs.Search.{AreDistinct, IsFinding, IsInserted, outcome_in, outcomes_in}
-use Rattle.shm_schedules.specs.Finding.{Finding}
-use Rattle.shm_outcomes.specs.declared.transitions.Transition.{Transition}
+use Rattle.shm_outcomes.proofs.Names.{◌≡◌, ◌<◌, ◌≤◌, ℕ, suc, zero, ◌+◌, ◌⊎◌, List, [], ◌∷◌, ◌++◌, Option, Some, All, Contains, length, slice_index_or, AllPairs, refl, sym, ap, subst, ◌∙◌, arith, inl, inr, length-append, map-append, get_or_append_left, get_or_push, All-head, All-map, All-nil, All-push, All-tail, Contains-append_left, Contains-get_or, Contains-push, all_pairs_push, cases_lt, none-some, Machine, Reply, ScriptView, AreAllTransitions, Groups, AreAdded, AreExpanded, Frontier, IsAdded, IsEndInserted, IsExpanded, Path, State, path_after, paths_after, state_in, states_in, walked, Run, fresh, goes, Leads, IsOver, schedule_of, outcome_of, AreDistinct, IsFinding, IsInserted, outcome_in, outcomes_in, Finding, Transition, goes-schedule}
 use Rattle.shm_outcomes.proofs.Grouping.{AreGroups, IsOne, goes-by-transition, moved, transitions-by-goes, not-over, over-all}
-use Rattle.shm_schedules.proofs.Walking.{goes-schedule}
 
 pub inserted-keeps :
     (olds news : List Finding) (f : Finding) → IsInserted olds f news

@@ -1,20 +1,6 @@
 -- What faults say of the input, and from what was read to the whole of it.
-use Rattle.std.proofs.Common.{◌≡◌, ◌≤◌, ◌⊎◌, ◌∙◌, ap, subst, sym, refl, inl, inr, ℕ, true, List, ◌++◌, length, Option, Some, None, Ok, append-nil}
-use Rattle.std.specs.Prelude.{OnOk, IfErr, Result, Err}
-use Rattle.std.specs.Io.KnownBytes.{Consumes, IsAtEnd}
-use Rattle.std.proofs.KnownBytes.{Keeps-refl}
-use Rattle.shm_life.specs.Start.{start_error}
-use Rattle.shm_text.specs.Script.{ScriptView}
-use Rattle.shm_text.specs.Reading.{script_of, IsFaultOf}
-use Rattle.shm_text.specs.declared.fault.ReadRefused.{ReadRefused}
+use Rattle.shm_program.proofs.Names.{◌≡◌, ◌≤◌, ◌⊎◌, ◌∙◌, ap, subst, sym, refl, inl, inr, ℕ, true, List, ◌++◌, length, Option, Some, None, Ok, append-nil, OnOk, IfErr, Result, Err, Consumes, IsAtEnd, Keeps-refl, start_error, ScriptView, script_of, IsFaultOf, ReadRefused, same_fault, StartError, is_reading, refused_as, IsCause, IsCauseIn, IsReadAs, IsSilent, IsStop, IsTextFor, MayBe, is_serial, RunFault, StartRefused, WriteFailed, HostMemory}
 use Rattle.shm_text.specs.declared.fault.ReadRefused.TheVariants as refused
-use Rattle.shm_text.proofs.ItemSteps.{same_fault}
-use Rattle.shm_life.specs.declared.start.StartError.{StartError}
-use Rattle.shm_program.specs.Ends.{is_reading}
-use Rattle.shm_program.specs.Faults.{refused_as}
-use Rattle.shm_program.specs.Runs.{IsCause, IsCauseIn, IsReadAs, IsSilent, IsStop, IsTextFor, MayBe, is_serial}
-use Rattle.shm_program.specs.declared.fault.RunFault.{RunFault}
-use Rattle.shm_program.specs.declared.fault.RunFault.TheVariants.{StartRefused, WriteFailed, HostMemory}
 
 -- a fault of what was read is the fault of the input
 pub refusals : (refusal : ReadRefused) (old new : Option (List ℕ)) (read : List ℕ) → Consumes old new read → (length read ≤ 1048576 → IsAtEnd new) → IsFaultOf refusal (script_of read) → (areas : List ℕ) → IsCause (refused_as refusal) areas old

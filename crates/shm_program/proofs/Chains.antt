@@ -1,13 +1,5 @@
 -- What the lines of a script leave as it was.
-use Rattle.std.specs.Prelude.{◌≡◌, List, [], ◌∷◌}
-use Rattle.std.proofs.Common.{ap, subst, sym, ◌∙◌}
-use Rattle.shm_history.specs.WorldState.{WorldState}
-use Rattle.shm_slots.specs.Cause.{GoesOn}
-use Rattle.shm_slots.proofs.Causes.{GoesOn-refl, GoesOn-trans}
-use Rattle.shm_text.specs.declared.script.Line.{Line}
-use Rattle.shm_text.specs.declared.script.Line.TheVariants.{Command, Flush}
-use Rattle.shm_program.specs.Running.{HasRun, HaveRun, RunStep}
-use Rattle.shm_program.specs.Values.{HolderView}
+use Rattle.shm_program.proofs.Names.{◌≡◌, List, [], ◌∷◌, ap, subst, sym, ◌∙◌, WorldState, GoesOn, GoesOn-refl, GoesOn-trans, Line, Command, Flush, HasRun, HaveRun, RunStep, HolderView}
 
 -- the opening stays, and the counts of failures go on from where they were
 abbrev GoesOnFrom : WorldState → WorldState → Type 0

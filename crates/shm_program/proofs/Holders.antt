@@ -1,9 +1,5 @@
 -- One process's variables among those of all.
-use Rattle.std.proofs.Common.{arith, ◌≡◌, ◌<◌, ◌+◌, ◌∙◌, sym, refl, ℕ, List, ◌∷◌, ◌++◌, Option, take, drop, length, get_or, set, add-one}
-use Rattle.std.proofs.Math.Seq.{drop-cons}
-use Rattle.std.proofs.lemmas.List.{take-append-drop, take-set, drop-set}
-use Rattle.std.proofs.lemmas.Bool.Decides.{nat_tests}
-use Rattle.shm_program.specs.Values.{HolderView, values_of, with_values}
+use Rattle.shm_program.proofs.Names.{arith, ◌≡◌, ◌<◌, ◌+◌, ◌∙◌, sym, refl, ℕ, List, ◌∷◌, ◌++◌, Option, take, drop, length, get_or, set, add-one, drop-cons, take-append-drop, take-set, drop-set, nat_tests, HolderView, values_of, with_values}
 
 set_split : (hs : List HolderView) (i : ℕ) (y : HolderView) → i < length hs → set hs i y ≡ take i hs ++ y ∷ drop (i + 1) hs
 set_split hs i y within = sym (take-append-drop i (set hs i y)) ∙ rw (take-set hs i y, drop-set hs i y within) refl

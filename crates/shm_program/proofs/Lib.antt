@@ -1,3 +1,4 @@
+pub mod Names
 pub mod Holders
 pub mod Causes
 pub mod Chains

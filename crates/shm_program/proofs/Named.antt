@@ -1,14 +1,5 @@
 -- The swap areas that the command line names.
-use Rattle.std.proofs.Common.{◌≡◌, ◌<◌, ◌≤◌, List, [], ◌∷◌, map, refl, ap, ◌∙◌}
-use Rattle.std.specs.List.{AllZip}
-use Rattle.shm_pager.specs.Pages.{pager_seen}
-use Rattle.shm_pager.specs.Areas.{area_pages, failed_in, most_in, calls_in}
-use Rattle.shm_pager.specs.declared.area.AreaPager.{AreaPager}
-use Rattle.shm_pager.proofs.Made.{made-seen}
-use Rattle.shm_slots.specs.View.{AreaView, fresh, new_swap}
-use Rattle.shm_program.specs.Areas.{IsAreaOf, areas_named, blank_of, calls_of, kind_of, no_calls, size_of}
-use Rattle.shm_program.specs.Runs.{handed_in}
-use Rattle.shm_program.specs.declared.options.SwapWord.{SwapWord}
+use Rattle.shm_program.proofs.Names.{◌≡◌, ◌<◌, ◌≤◌, List, [], ◌∷◌, map, refl, ap, ◌∙◌, AllZip, pager_seen, area_pages, failed_in, most_in, calls_in, AreaPager, made-seen, AreaView, fresh, new_swap, IsAreaOf, areas_named, blank_of, calls_of, kind_of, no_calls, size_of, handed_in, SwapWord}
 
 each-named : (swaps : List SwapWord) (ps : List AreaPager) → AllZip IsAreaOf swaps ps
     → map (λ (p : AreaPager). fresh (pager_seen area_pages failed_in most_in calls_in p)) ps ≡ map (λ (swap : SwapWord). fresh (blank_of swap)) swaps

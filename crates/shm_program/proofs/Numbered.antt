@@ -1,8 +1,5 @@
 -- The items of a list with their numbers, one after another.
-use Rattle.std.proofs.Common.{◌≡◌, ℕ, zero, suc, ◌+◌, ◌-◌, List, [], ◌∷◌, ◌++◌, length, replicate, None, Option, refl, ap, ◌∙◌}
-use Rattle.shm_base.specs.declared.paging.PageRef.{PageRef}
-use Rattle.shm_base.specs.Stored.{padded}
-use Rattle.shm_program.specs.Record.{numbered, slot_line}
+use Rattle.shm_program.proofs.Names.{◌≡◌, ℕ, zero, suc, ◌+◌, ◌-◌, List, [], ◌∷◌, ◌++◌, length, replicate, None, Option, refl, ap, ◌∙◌, PageRef, padded, numbered, slot_line}
 
 -- slots that nobody owns have no line
 none-numbered : (area i k : ℕ) → numbered (slot_line area) i (replicate k None) ≡ []

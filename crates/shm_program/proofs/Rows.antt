@@ -1,9 +1,5 @@
 -- The lines of a table, one index after another.
-use Rattle.std.proofs.Common.{arith, add-one, ◌≡◌, ◌<◌, ◌+◌, refl, ℕ, zero, suc, List, [], ◌∷◌, ◌++◌, length, drop}
-use Rattle.std.specs.Prelude.{slice_get}
-use Rattle.shm_base.specs.State.{Entry, Machine}
-use Rattle.shm_life.specs.Listed.{listed_entry, segment_at}
-use Rattle.shm_program.specs.Listing.{line_shown, lines_from}
+use Rattle.shm_program.proofs.Names.{arith, add-one, ◌≡◌, ◌<◌, ◌+◌, refl, ℕ, zero, suc, List, [], ◌∷◌, ◌++◌, length, drop, slice_get, Entry, Machine, listed_entry, segment_at, line_shown, lines_from}
 
 lines_from-drop : (m : Machine) (k i : ℕ) (es : List Entry) → i < length es → lines_from m k (drop i es) ≡ line_shown (listed_entry m k (slice_get es i)) ++ lines_from m (k + 1) (drop (suc i) es)
 lines_from-drop m k i [] h = absurd (omega arith)

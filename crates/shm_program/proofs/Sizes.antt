@@ -1,12 +1,5 @@
 -- The slots of the areas that the words name.
-use Rattle.std.specs.Prelude.{◌≡◌, ℕ, List, [], ◌∷◌, length, map}
-use Rattle.std.proofs.Common.{ap, ◌∙◌, refl, sym}
-use Rattle.std.proofs.lemmas.List.{length-replicate}
-use Rattle.shm_pager.specs.Pages.{SideCalls, pager_seen}
-use Rattle.shm_slots.specs.View.{AreaView, SwapView, fresh}
-use Rattle.shm_program.specs.Areas.{areas_named, blank_of, size_of}
-use Rattle.shm_program.specs.Runs.{handed_in}
-use Rattle.shm_program.specs.declared.options.SwapWord.{SwapWord}
+use Rattle.shm_program.proofs.Names.{◌≡◌, ℕ, List, [], ◌∷◌, length, map, ap, ◌∙◌, refl, sym, length-replicate, SideCalls, pager_seen, AreaView, SwapView, fresh, areas_named, blank_of, size_of, handed_in, SwapWord}
 
 abbrev slots : AreaView → ℕ
 slots a = length a.pages

@@ -1,9 +1,5 @@
 -- What was written, as that of the input.
-use Rattle.std.proofs.Common.{ℕ, List, Option, Ok}
-use Rattle.std.specs.Prelude.{OnOk, Result, Err}
-use Rattle.std.specs.Io.KnownBytes.{Appends}
-use Rattle.shm_text.specs.Script.{ScriptView}
-use Rattle.shm_program.specs.Runs.{IsReadAs, IsWritten, Prints}
+use Rattle.shm_program.proofs.Names.{ℕ, List, Option, Ok, OnOk, Result, Err, Appends, ScriptView, IsReadAs, IsWritten, Prints}
 
 -- of the input that was read as a script
 pub shown : (IsText : ScriptView → List ℕ → List ℕ → Type 0) (input old new : Option (List ℕ)) (areas : List ℕ) (script : ScriptView) → IsReadAs input (Ok script) → IsWritten (IsText script areas) old new → Prints IsText old new areas input

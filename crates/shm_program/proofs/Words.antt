@@ -1,6 +1,5 @@
 -- The words that are left after the first ones.
-use Rattle.std.proofs.Common.{arith, ◌≡◌, ◌∙◌, ◌≤◌, ◌-◌, ap, sym, List, [], ◌∷◌, length, take, drop, get_or}
-use Rattle.std.proofs.Math.Seq.{take-length}
+use Rattle.shm_program.proofs.Names.{arith, ◌≡◌, ◌∙◌, ◌≤◌, ◌-◌, ap, sym, List, [], ◌∷◌, length, take, drop, get_or, take-length}
 
 -- a list with an item, and the rest of it
 pub one_up : {X : Type 0} (xs : List X) (x : X) → 1 ≤ length xs → get_or xs 0 x ≡ x → xs ≡ x ∷ take (length xs - 1) (drop 1 xs)

@@ -1,7 +1,5 @@
 -- Pairs that are appended to others.
-use Rattle.std.proofs.Common.{arith, ◌≡◌, ◌<◌, ◌+◌, ◌∙◌, ℕ, suc, List, [], ◌∷◌, ◌++◌, take, get_or, length, ap, sym, subst}
-use Rattle.std.proofs.Math.Seq.{take-suc}
-use Rattle.std.specs.List.{AllZip}
+use Rattle.shm_program.proofs.Names.{arith, ◌≡◌, ◌<◌, ◌+◌, ◌∙◌, ℕ, suc, List, [], ◌∷◌, ◌++◌, take, get_or, length, ap, sym, subst, take-suc, AllZip}
 
 zipped-push : {X Y : Type 0} (R : X → Y → Type 0) (xs : List X) (ys : List Y) (x : X) (y : Y) → AllZip R xs ys → R x y → AllZip R (xs ++ x ∷ []) (ys ++ y ∷ [])
 zipped-push R [] [] x y all r = (r, tt)

@@ -1,17 +1,6 @@
 -- What the errors of a run with threads say of the input.
-use Rattle.std.proofs.Common.{◌≡◌, ℕ, true, List, Ok, Option}
-use Rattle.std.proofs.KnownBytes.{Keeps-refl}
-use Rattle.std.proofs.lemmas.Bool.{false≢true}
-use Rattle.std.specs.Prelude.{Err, IfErr, Result}
-use Rattle.shm_history.specs.WorldState.{WorldState}
-use Rattle.shm_text.specs.Script.{ScriptView}
-use Rattle.shm_threads.specs.declared.outcome.RunError.{RunError}
+use Rattle.shm_runner.proofs.Names.{◌≡◌, ℕ, true, List, Ok, Option, Keeps-refl, false≢true, Err, IfErr, Result, WorldState, ScriptView, RunError, CanEnd, IsCauseIn, IsSilent, is_serial, RunFault, Gate, Mismatch, CanFail, IsUngated, ended_as}
 use Rattle.shm_threads.specs.declared.outcome.RunError.TheVariants as errors
-use Rattle.shm_threads.specs.Ends.{CanEnd}
-use Rattle.shm_program.specs.Runs.{IsCauseIn, IsSilent, is_serial}
-use Rattle.shm_program.specs.declared.fault.RunFault.{RunFault}
-use Rattle.shm_program.specs.declared.fault.RunFault.TheVariants.{Gate, Mismatch}
-use Rattle.shm_runner.specs.Faults.{CanFail, IsUngated, ended_as}
 
 -- why a run with threads ended
 pub ended_cause : (error : RunError) (areas : List ℕ) (script : ScriptView) → IsCauseIn (ended_as error) areas script

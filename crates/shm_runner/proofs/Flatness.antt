@@ -1,30 +1,6 @@
 -- Where no pager failed, a script's history is the one that it makes of the flat machine.
-use Rattle.std.proofs.Common.{arith, ◌≡◌, ℕ, ◌+◌, ◌≤◌, ◌++◌, true, false, List, [], ◌∷◌, Some, length, map, sym, ap, subst, ◌∙◌, append-nil, append_assoc}
-use Rattle.std.proofs.lemmas.List.{length_push}
-use Rattle.shm_base.specs.declared.call.Event.{Event}
-use Rattle.shm_base.specs.State.{Machine, Opening, start_of}
-use Rattle.shm_base.specs.Callers.{Outcome}
-use Rattle.shm_base.specs.Step.{step}
-use Rattle.shm_base.specs.History.{LeadsFrom, is_failure}
-use Rattle.shm_fault.specs.Store.{StoreView}
-use Rattle.shm_slots.specs.View.{AreCountsOf, SwapView, are_finite}
-use Rattle.shm_slots.specs.Cause.{GoesOn, total, most_total}
-use Rattle.shm_slots.proofs.Causes.{unfailing, total-most, never_spent-most}
-use Rattle.shm_history.specs.WorldState.{WorldState, AreCounted, event, failures_in, tally_of}
-use Rattle.shm_print.specs.Text.{events_text}
-use Rattle.shm_print.specs.Usage.{usage_text}
-use Rattle.shm_program.specs.Listing.{listing_of}
-use Rattle.shm_text.specs.Script.{ScriptView}
-use Rattle.shm_text.specs.declared.script.Line.{Line}
-use Rattle.shm_text.specs.declared.script.Line.TheVariants.{Command, Flush}
-use Rattle.shm_history.proofs.Clear.{clear_step, first_clear, rest_clear}
-use Rattle.shm_program.proofs.Chains.{run-kept}
-use Rattle.shm_program.specs.Running.{HaveRun, IsRunOf, RunStep, call_made}
-use Rattle.shm_program.specs.Values.{HolderView, fresh_holder, with_answer}
-use Rattle.shm_program.specs.Runs.{opening_of}
-use Rattle.shm_laws.specs.Worlds.{IsWorldSound}
-use Rattle.shm_runner.specs.Output.{NeverFails, world_text}
-use Rattle.shm_runner.specs.Flat.{flat_events, flat_end, flat_text}
+use Rattle.shm_runner.proofs.Names.{arith, ◌≡◌, ℕ, ◌+◌, ◌≤◌, ◌++◌, true, false, List, [], ◌∷◌, Some, length, map, sym, ap, subst, ◌∙◌, append-nil, append_assoc, length_push, Event, Machine, Opening, start_of, Outcome, step, LeadsFrom, is_failure, StoreView, AreCountsOf, SwapView, are_finite, GoesOn, total, most_total, unfailing, total-most, never_spent-most, WorldState, event, failures_in, tally_of, events_text, usage_text, listing_of, ScriptView, Line, Command, Flush, clear_step, first_clear, rest_clear, run-kept, HaveRun, IsRunOf, RunStep, call_made, HolderView, fresh_holder, with_answer, opening_of, IsWorldSound, NeverFails, world_text, flat_events, flat_end, flat_text}
+use Rattle.shm_history.specs.WorldState.{AreCounted}
 
 later_clear : (before : List Event) (e : Event) (more : List Event) → failures_in (before ++ e ∷ more) ≡ 0 → is_failure e.call e.reply ≡ false
 later_clear [] e more none = first_clear e more none

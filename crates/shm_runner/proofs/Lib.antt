@@ -1,3 +1,4 @@
+pub mod Names
 mod Causes
 mod Flatness
 pub mod Opened

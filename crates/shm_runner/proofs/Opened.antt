@@ -1,18 +1,5 @@
 -- A world that a script opened, before its first event, and after a run with threads.
-use Rattle.std.proofs.Common.{◌≡◌, [], ℕ, List, ap, arith, refl, subst, sym}
-use Rattle.shm_base.specs.History.{IsHistory}
-use Rattle.shm_base.specs.State.{Opening}
-use Rattle.shm_base.specs.declared.call.Event.{Event}
-use Rattle.shm_history.specs.WorldState.{AreCounted, WorldState}
-use Rattle.shm_laws.specs.Lawful.{IsLawful}
-use Rattle.shm_life.specs.MachineView.{IsExactly}
-use Rattle.shm_laws.specs.Worlds.{IsWorldSound}
-use Rattle.shm_slots.specs.View.{AreCountsOf}
-use Rattle.shm_text.specs.Script.{ScriptView}
-use Rattle.shm_program.specs.Running.{IsStart}
-use Rattle.shm_program.specs.Runs.{IsFresh, IsOpening}
-use Rattle.shm_threads.specs.Outcomes.{IsOpened, IsOutcome}
-use Rattle.shm_threads.specs.declared.transcript.Transcript.{Transcript}
+use Rattle.shm_runner.proofs.Names.{◌≡◌, [], ℕ, List, ap, arith, refl, subst, sym, IsHistory, Opening, Event, AreCounted, WorldState, IsLawful, IsExactly, IsWorldSound, AreCountsOf, ScriptView, IsStart, IsFresh, IsOpening, IsOpened, IsOutcome, Transcript}
 use Rattle.shm_runner.proofs.Started.{starts-anew}
 use Rattle.shm_runner.proofs.Texts.{Known}
 

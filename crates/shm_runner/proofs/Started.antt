@@ -1,14 +1,5 @@
 -- A run begins anew when its world has got room for its events.
-use Rattle.std.specs.Prelude.{◌≡◌, ℕ, List, Result, OnOk, map}
-use Rattle.std.proofs.Common.{subst, sym}
-use Rattle.std.proofs.lemmas.Result.{on_ok_weaker}
-use Rattle.shm_history.specs.WorldState.{WorldState}
-use Rattle.shm_laws.specs.Worlds.{IsWorldSound}
-use Rattle.shm_slots.specs.View.{SwapView}
-use Rattle.shm_text.specs.Script.{ScriptView}
-use Rattle.shm_text.specs.declared.script.Line.{Line}
-use Rattle.shm_program.specs.Running.{HaveRun, IsRunOf, IsStart, RunStep}
-use Rattle.shm_program.specs.Values.{HolderView, fresh_holder}
+use Rattle.shm_runner.proofs.Names.{◌≡◌, ℕ, List, Result, OnOk, map, subst, sym, on_ok_weaker, WorldState, IsWorldSound, SwapView, ScriptView, Line, HaveRun, IsRunOf, IsStart, RunStep, HolderView, fresh_holder}
 
 -- room for events is no part of what a start says
 pub starts-anew : (swap : SwapView) (script : ScriptView) (areas : List ℕ) (old : WorldState) (room : ℕ) → IsStart IsWorldSound swap script areas old → IsStart IsWorldSound swap script areas (record old { room = room })

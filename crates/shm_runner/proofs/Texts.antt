@@ -1,25 +1,6 @@
 -- The text of a world, as that of a script's run.
-use Rattle.std.proofs.Common.{◌≡◌, refl, sym, subst, inl, inr, ℕ, Bool, true, false, List, Option, Ok}
-use Rattle.std.specs.Prelude.{OnOk, IfErr, Result, Err}
-use Rattle.std.specs.Io.KnownBytes.{Appends, IsAtEnd}
-use Rattle.shm_slots.specs.View.{SwapView, AreCountsOf}
-use Rattle.shm_slots.specs.Cause.{GoesOn}
-use Rattle.shm_history.specs.WorldState.{WorldState}
-use Rattle.shm_text.specs.Script.{ScriptView}
-use Rattle.shm_threads.specs.declared.transcript.Transcript.{Transcript}
-use Rattle.shm_program.specs.Running.{IsRunOf, IsStart, RunStep}
-use Rattle.shm_program.specs.Runs.{IsReadAs, IsWorldOf, IsTextFor, IsWritten}
-use Rattle.shm_laws.specs.Worlds.{IsWorldSound}
-use Rattle.shm_runner.specs.Output.{IsOutput, world_text}
+use Rattle.shm_runner.proofs.Names.{◌≡◌, refl, sym, subst, inl, inr, ℕ, Bool, true, false, List, Option, Ok, OnOk, IfErr, Result, Err, Appends, IsAtEnd, SwapView, AreCountsOf, GoesOn, WorldState, ScriptView, Transcript, IsRunOf, IsStart, RunStep, IsReadAs, IsWorldOf, IsTextFor, IsWritten, IsWorldSound, IsOutput, world_text, silent_as, text_for, shown, Moment, AreAllMoves, AreTranscripts, have_mark, IsAnyOutput, IsThreadedOutput, IsAllOrNothing, IsWrittenAt, RunFault}
 use Rattle.shm_runner.proofs.Flatness.{began, flat_printed, flat_unfailing, flat_bounded, few_failures, none_unfailing}
-use Rattle.shm_program.proofs.Causes.{silent_as, text_for}
-use Rattle.shm_program.proofs.Texts.{shown}
-use Rattle.shm_threads.specs.Moves.{Moment}
-use Rattle.shm_threads.specs.Outcomes.{AreAllMoves}
-use Rattle.shm_threads.specs.Transcripts.{AreTranscripts}
-use Rattle.shm_runner.specs.Marks.{have_mark}
-use Rattle.shm_runner.specs.Threaded.{IsAnyOutput, IsThreadedOutput, IsAllOrNothing, IsWrittenAt}
-use Rattle.shm_program.specs.declared.fault.RunFault.{RunFault}
 
 -- the text of the world to which a script's lines led
 pub serial_text : {P : Type 0} (failed : P → ℕ) (swap : SwapView) (script : ScriptView) (areas : List ℕ) (start : WorldState) (steps : List RunStep) (w : WorldState)

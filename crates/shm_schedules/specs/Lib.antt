@@ -5,6 +5,7 @@ pub mod Times
 pub mod Finding
 pub mod Text
 pub mod Alike
+pub mod Cuts
 pub mod Digests
 pub mod Same
 pub mod Lacking

@@ -1,6 +1,7 @@
 //! Runs of a script along schedules, and their outcomes.
 #![tactic(auto)]
 
+mod cuts;
 mod digests;
 mod engine;
 mod events;
@@ -14,6 +15,7 @@ mod search_error;
 mod simulated;
 mod text;
 
+pub use cuts::{is_any, past, until};
 pub use engine::Engine;
 pub use events::{is_change, is_refusal};
 pub use finding::Finding;

@@ -1,10 +1,5 @@
 -- What an event does to the lives of processes.
-use Rattle.std.specs.Prelude.{◌≡◌, ◌≢◌, ℕ, true, false, List, Some, MatchBool}
-use Rattle.shm_base.specs.State.{Ended, Live, Runner, Unborn}
-use Rattle.shm_base.specs.declared.call.Event.{Event}
-use Rattle.shm_base.specs.declared.owner.Cred.{Cred}
-use Rattle.shm_threads.specs.Strands.{life_from}
-use Rattle.shm_threads.specs.Transcripts.{is_end, is_fork_of}
+use Rattle.shm_threads.proofs.Names.{◌≡◌, ◌≢◌, ℕ, true, false, List, Some, MatchBool, Ended, Live, Runner, Unborn, Event, Cred, life_from, is_end, is_fork_of}
 use Rattle.shm_threads.specs.declared.transcript.Answer.TheVariants.{Reply as Replied}
 
 abbrev pub IsLive : ℕ → List Runner → Type 0

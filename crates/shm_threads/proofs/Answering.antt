@@ -1,29 +1,6 @@
 -- A call of a live process never fails with ESRCH.
-use Rattle.std.specs.Prelude.{◌≡◌, ◌≢◌, ◌+◌, ◌-◌, ◌*◌, ◌%◌, ◌^◌, ◌==◌, ◌&&◌, ℕ, suc, zero, ℤ, Bool, true, false, not, nat_le, nat_lt, List, ◌∷◌, length, Option, Some, None, Result, Ok, Err, ⊤, is_some, if◌then◌else◌}
-use Rattle.std.specs.Option.{ok_or}
-use Rattle.std.proofs.Common.{sym, ap, ◌∙◌, refl, arith, inl, inr, true≢false}
-use Rattle.std.proofs.lemmas.Grind.{common_steps}
-use Rattle.shm_base.specs.Calls.{ProcessCall}
-use Rattle.shm_base.specs.History.{IsMove, is_failure}
-use Rattle.shm_base.specs.Identifier.{Found, Invalid, Look, Removed, destroyed_at, identifier, look}
-use Rattle.shm_base.specs.Permission.{grants}
-use Rattle.shm_base.specs.Rules.{pieces_are_enomem, removed_is_invalid}
-use Rattle.shm_base.specs.Access.{end_of}
-use Rattle.shm_base.specs.Mapping.{Protected, done_or, has_protection, munmap, protects_from, protects_piece, protects_pieces, rounded, turned, unmaps}
-use Rattle.shm_base.specs.Space.{choose_beside, covering, cut, end_address, inside}
-use Rattle.shm_base.specs.State.{Machine, Piece, Segment, pages_in, pages_of}
-use Rattle.shm_base.specs.Callers.{Caller, Outcome, caller_of}
-use Rattle.shm_base.specs.Step.{acts, at_wish, attaches_if, base_for, fixed_base, host_ranges, if_few, is_full, is_misplaced, is_taken, outside_errno, pieces_beside, placed, placed_at, placed_found, shmat, shmget, step_by}
-use Rattle.shm_base.specs.declared.call.Call.TheVariants.{Mprotect, Munmap, Shmat, Shmget}
-use Rattle.shm_base.specs.declared.call.Event.{Event}
-use Rattle.shm_base.specs.declared.call.Placed.{Placed}
-use Rattle.shm_base.specs.declared.call.Reply.{Reply}
-use Rattle.shm_base.specs.declared.call.Reply.TheVariants.{Refused}
-use Rattle.shm_base.specs.declared.errno.Errno.{Errno}
-use Rattle.shm_base.specs.declared.errno.Errno.TheVariants.{Enomem, Esrch}
-use Rattle.shm_base.specs.declared.flags.AtFlags.{AtFlags}
-use Rattle.shm_base.specs.declared.flags.GetFlags.{GetFlags}
-use Rattle.shm_life.proofs.Asking.{by-shmget, pick}
+use Rattle.shm_threads.proofs.Names.{◌≡◌, ◌≢◌, ◌+◌, ◌-◌, ◌*◌, ◌%◌, ◌^◌, ◌==◌, ◌&&◌, ℕ, ℤ, Bool, true, false, not, nat_le, nat_lt, List, ◌∷◌, length, Option, Some, None, Result, Ok, Err, ⊤, is_some, if◌then◌else◌, ok_or, sym, ap, ◌∙◌, refl, arith, inl, inr, true≢false, common_steps, ProcessCall, IsMove, is_failure, Found, Invalid, Look, Removed, destroyed_at, identifier, look, grants, pieces_are_enomem, removed_is_invalid, end_of, Protected, done_or, has_protection, munmap, protects_from, protects_piece, protects_pieces, rounded, turned, unmaps, choose_beside, covering, cut, end_address, inside, Machine, Piece, Segment, pages_in, pages_of, Caller, Outcome, caller_of, acts, at_wish, attaches_if, base_for, fixed_base, host_ranges, if_few, is_full, is_misplaced, is_taken, outside_errno, pieces_beside, placed, placed_at, placed_found, shmat, shmget, step_by, Mprotect, Munmap, Shmat, Shmget, Event, Placed, Reply, Refused, Errno, Enomem, Esrch, AtFlags, GetFlags, by-shmget, pick}
+use Rattle.std.specs.Prelude.{suc, zero}
 
 abbrev is_lost : Reply → Bool
 is_lost (Refused Esrch) = true

@@ -1,20 +1,6 @@
 -- One more entry of a strand, and one more event of the history.
-use Rattle.std.specs.Prelude.{◌≡◌, ◌≢◌, ◌<◌, ◌≤◌, ◌+◌, ◌++◌, ◌==◌, ℕ, Bool, true, false, List, [], ◌∷◌, Option, length, drop, MatchBool}
-use Rattle.std.proofs.Common.{subst, sym, ap, ◌∙◌, refl, append-nil, append_assoc, eq-eqb, ne_eqb}
-use Rattle.std.proofs.Math.ListN.{get_or}
-use Rattle.std.proofs.lemmas.Bool.{or_from, or_parts}
-use Rattle.std.proofs.lemmas.List.{drop_all, drop_more, length_push}
-use Rattle.std.proofs.lemmas.List.Elements.{filter-append}
-use Rattle.shm_base.specs.Calls.{ProcessCall}
-use Rattle.shm_base.specs.History.{own_part}
-use Rattle.shm_base.specs.declared.call.Event.{Event}
-use Rattle.shm_text.specs.Form.{CommandView}
-use Rattle.shm_text.specs.Variables.{call_of, no_values, values_after}
-use Rattle.shm_threads.specs.Strands.{IsUnderway}
-use Rattle.shm_threads.specs.Transcripts.{Follows, events_of, is_end, is_fork_of, is_forked, reply_in, transcript_events}
-use Rattle.shm_threads.specs.declared.transcript.Answer.{Answer}
-use Rattle.shm_threads.specs.declared.transcript.Answer.TheVariants.{Reply as Replied, HostMemory}
-use Rattle.shm_threads.specs.declared.transcript.Entry.{Entry}
+use Rattle.shm_threads.proofs.Names.{◌≡◌, ◌≢◌, ◌<◌, ◌≤◌, ◌+◌, ◌++◌, ◌==◌, ℕ, Bool, true, false, List, [], ◌∷◌, Option, length, drop, MatchBool, subst, sym, ap, ◌∙◌, refl, append-nil, append_assoc, eq-eqb, ne_eqb, get_or, or_from, or_parts, drop_all, drop_more, length_push, filter-append, ProcessCall, own_part, Event, CommandView, call_of, no_values, values_after, IsUnderway, Follows, events_of, is_end, is_fork_of, is_forked, reply_in, transcript_events, Answer, HostMemory, Entry}
+use Rattle.shm_threads.specs.declared.transcript.Answer.TheVariants.{Reply as Replied}
 
 -- EVENTS
 

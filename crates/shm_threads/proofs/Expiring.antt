@@ -1,21 +1,5 @@
 -- A run that its gate ended: the threads that come before the one that it ended have made all their calls.
-use Rattle.std.specs.Prelude.{◌≡◌, ◌<◌, ℕ, Bool, false, List, Option, Some, None, length, map, IfErr, IfSome, OnOk}
-use Rattle.std.proofs.Common.{◌∙◌}
-use Rattle.std.proofs.Math.ListN.{get_or}
-use Rattle.std.proofs.lemmas.Bool.{lt-ltb}
-use Rattle.std.proofs.lemmas.List.{take_all}
-use Rattle.std.proofs.lemmas.List.Elements.{All-map}
-use Rattle.shm_history.specs.WorldState.{WorldState}
-use Rattle.shm_text.specs.Script.{ScriptView}
-use Rattle.shm_threads.specs.Asked.{rounds_of}
-use Rattle.shm_threads.specs.Ends.{CanStop, IsEnded, IsExpired, ended_by}
-use Rattle.shm_threads.specs.Moves.{entries_in}
-use Rattle.shm_threads.specs.Passed.{ArePassed, Passes}
-use Rattle.shm_threads.specs.Running.{IsOver}
-use Rattle.shm_threads.specs.Strands.{can_go, transcript_of}
-use Rattle.shm_threads.specs.Transcripts.{HasLines}
-use Rattle.shm_threads.specs.declared.strand.Strand.{Strand}
-use Rattle.shm_threads.specs.declared.transcript.Transcript.{Transcript}
+use Rattle.shm_threads.proofs.Names.{◌≡◌, ◌<◌, ℕ, Bool, false, List, Option, Some, None, length, map, IfErr, IfSome, OnOk, ◌∙◌, get_or, lt-ltb, take_all, All-map, WorldState, ScriptView, rounds_of, CanStop, IsEnded, IsExpired, ended_by, entries_in, ArePassed, Passes, IsOver, can_go, transcript_of, HasLines, Strand, Transcript}
 use Rattle.shm_threads.proofs.Over.{is-whole, pids-of}
 
 module _ (answers : ℕ → ℕ → Bool → Bool) (script : ScriptView) (start w : WorldState) (ss : List Strand) (made : ℕ) where

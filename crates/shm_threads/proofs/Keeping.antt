@@ -1,8 +1,5 @@
 -- The keeper of a run, from one publication to the next.
-use Rattle.std.proofs.Common.{◌≡◌, ◌∙◌, ◌++◌, List, [], ◌∷◌, Option, Bool, true, false, IsTrue, IsFalse, ap, append-nil, append_assoc, refl, sym}
-use Rattle.shm_history.specs.Gauges.{CellName, Seat, StartsWith, stores}
-use Rattle.shm_history.specs.declared.cell.Reading.{Reading}
-use Rattle.shm_threads.specs.Keepers.{IsKept, cell_of, stored_of}
+use Rattle.shm_threads.proofs.Names.{◌≡◌, ◌∙◌, ◌++◌, List, [], ◌∷◌, Option, Bool, true, false, IsTrue, IsFalse, ap, append-nil, append_assoc, refl, sym, CellName, Seat, StartsWith, stores, Reading, IsKept, cell_of, stored_of}
 
 pub starts-trans : (all more some : List Reading) → StartsWith all more → StartsWith more some → StartsWith all some
 starts-trans all more some (late, is) (early, was) = (early ++ late, is ∙ ap (λ (rs : List Reading). rs ++ late) was ∙ append_assoc some early late)

@@ -1,21 +1,6 @@
 -- Strands that keep their entries or not, and what a mark says of an entry.
-use Rattle.std.specs.Prelude.{◌≡◌, ◌<◌, ℕ, Bool, Option, Some, None, is_some, not, List, [], ◌∷◌, length, map, All}
-use Rattle.std.specs.Borrow.{Bor}
-use Rattle.std.specs.Option.{option_copied}
-use Rattle.std.specs.List.{list_any}
-use Rattle.std.proofs.Common.{subst, sym, ◌∙◌, refl}
-use Rattle.std.proofs.Math.ListN.{get_or, set}
-use Rattle.std.proofs.lemmas.List.Elements.{All-map}
-use Rattle.shm_base.specs.declared.call.Reply.{Reply}
-use Rattle.shm_threads.specs.Entries.{is_marked}
-use Rattle.shm_threads.specs.Strands.{IsKeptAs, transcript_of}
-use Rattle.shm_threads.specs.Transcripts.{HasEntries, reply_in}
-use Rattle.shm_threads.specs.declared.entry_list.Mark.{Mark}
-use Rattle.shm_threads.specs.declared.strand.Strand.{Strand}
-use Rattle.shm_threads.specs.declared.transcript.Answer.{Answer}
-use Rattle.shm_threads.specs.declared.transcript.Answer.TheVariants.{Reply as Replied, HostMemory}
-use Rattle.shm_threads.specs.declared.transcript.Entry.{Entry}
-use Rattle.shm_threads.specs.declared.transcript.Transcript.{Transcript}
+use Rattle.shm_threads.proofs.Names.{◌≡◌, ◌<◌, ℕ, Bool, Option, Some, None, is_some, not, List, [], ◌∷◌, length, map, All, Bor, option_copied, list_any, subst, sym, ◌∙◌, refl, get_or, set, All-map, Reply, is_marked, IsKeptAs, transcript_of, HasEntries, reply_in, Mark, Strand, Answer, HostMemory, Entry, Transcript}
+use Rattle.shm_threads.specs.declared.transcript.Answer.TheVariants.{Reply as Replied}
 use Rattle.shm_threads.proofs.Placing.{each-set}
 
 -- after a call of a strand

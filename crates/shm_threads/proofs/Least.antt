@@ -1,11 +1,5 @@
 -- Threads that the gate ended: the lesser of two pids, and how the run ends.
-use Rattle.std.proofs.Common.{◌≡◌, ℕ, Option, Some, None, arith, inl, inr, refl, subst, sym}
-use Rattle.std.specs.Prelude.{Bool, true, false, IfErr, IfSome, OnOk, Result, min, ◌↔◌}
-use Rattle.std.proofs.lemmas.Bool.{cases_lt, false≢true}
-use Rattle.shm_history.specs.WorldState.{WorldState}
-use Rattle.shm_text.specs.Script.{ScriptView}
-use Rattle.shm_threads.specs.Ends.{CanEnd, CanStop, IsExpired, ended_by, least}
-use Rattle.shm_threads.specs.declared.outcome.RunError.{RunError}
+use Rattle.shm_threads.proofs.Names.{◌≡◌, ℕ, Option, Some, None, arith, inl, inr, refl, subst, sym, Bool, true, false, IfErr, IfSome, OnOk, Result, min, ◌↔◌, cases_lt, false≢true, WorldState, ScriptView, CanEnd, CanStop, IsExpired, ended_by, least, RunError}
 use Rattle.shm_threads.specs.declared.outcome.RunError.TheVariants as errors
 
 -- it is one of them

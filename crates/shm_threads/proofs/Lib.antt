@@ -1,3 +1,4 @@
+pub mod Names
 mod Ages
 mod Answering
 mod Entries

@@ -1,25 +1,7 @@
 -- What events make of the lives of processes: who has ended stays ended, a child is not born before a fork of it, and a live
 -- process lives until it exits.
-use Rattle.std.proofs.Common.{◌≡◌, ◌≢◌, ℕ, zero, suc, ◌+◌, ◌==◌, Bool, true, false, List, [], ◌∷◌, Option, Some, None, if◌then◌else◌, is_some, MatchBool, slice_set, inl, inr, refl, sym, ap, subst, ◌∙◌, arith, eq-eqb, ne_eqb, eqb-true, true≢false}
-use Rattle.std.proofs.lemmas.Bool.{cases_eq}
-use Rattle.std.proofs.lemmas.Option.{none-some, same_Some}
-use Rattle.shm_base.specs.History.{IsMove, is_refusal}
-use Rattle.shm_base.specs.State.{Ended, Life, Live, Machine, Piece, Runner, Unborn}
-use Rattle.shm_base.specs.Callers.{Caller, Outcome, caller_by, caller_from, caller_of}
-use Rattle.shm_base.specs.Step.{acts, detaches, is_unborn, pieces_with, unborn_from}
-use Rattle.shm_base.specs.Calls.{ProcessCall}
-use Rattle.shm_base.specs.declared.call.Call.TheVariants.{Exec, Exit, Shmdt}
-use Rattle.shm_base.specs.declared.call.Event.{Event}
-use Rattle.shm_base.specs.declared.call.Reply.{Reply}
-use Rattle.shm_base.specs.declared.call.Reply.TheVariants.{Done}
-use Rattle.shm_base.specs.declared.owner.Cred.{Cred}
-use Rattle.shm_base.specs.Mapping.{protects_pieces, rounded}
-use Rattle.shm_base.specs.Space.{cut, origin_of}
-use Rattle.shm_laws.specs.Pieces.{hands_pieces}
-use Rattle.shm_laws.proofs.Handing.{Hands, Leaves, hands-acts}
-use Rattle.shm_laws.proofs.Refusing.{by-move}
-use Rattle.shm_threads.specs.Strands.{life_from}
-use Rattle.shm_threads.specs.Transcripts.{is_end, is_fork_of}
+use Rattle.shm_threads.proofs.Names.{◌≡◌, ◌≢◌, ℕ, ◌+◌, ◌==◌, Bool, true, false, List, [], ◌∷◌, Option, Some, None, if◌then◌else◌, is_some, MatchBool, slice_set, inl, inr, refl, sym, ap, subst, ◌∙◌, arith, eq-eqb, ne_eqb, eqb-true, true≢false, cases_eq, none-some, same_Some, IsMove, is_refusal, Ended, Life, Live, Machine, Piece, Runner, Unborn, Caller, Outcome, caller_by, caller_from, caller_of, acts, detaches, is_unborn, pieces_with, unborn_from, ProcessCall, Exec, Exit, Shmdt, Event, Reply, Done, Cred, protects_pieces, rounded, cut, origin_of, hands_pieces, Hands, Leaves, hands-acts, by-move, life_from, is_end, is_fork_of}
+use Rattle.std.proofs.Common.{zero, suc}
 use Rattle.shm_threads.specs.declared.transcript.Answer.TheVariants.{Reply as Replied}
 use Rattle.shm_threads.proofs.Ages.{Ages, IsLive}
 

@@ -1,19 +1,6 @@
 -- One more move of a run.
-use Rattle.std.specs.Prelude.{◌≡◌, ◌≢◌, ◌<◌, ◌+◌, ◌++◌, ℕ, List, [], ◌∷◌, length, take}
-use Rattle.std.proofs.Common.{subst, sym, ap, ◌∙◌, refl, append-nil, eq-eqb, ne_eqb, inl, inr}
-use Rattle.std.proofs.Math.ListN.{get_or, set}
-use Rattle.std.proofs.lemmas.Bool.{cases_eq}
-use Rattle.std.proofs.lemmas.List.{take_more}
-use Rattle.shm_base.specs.declared.paging.FlushReport.{FlushReport}
-use Rattle.shm_history.specs.WorldState.{WorldState, IsRound}
-use Rattle.shm_text.specs.Form.{CommandView}
-use Rattle.shm_text.specs.declared.script.Line.{Line}
-use Rattle.shm_threads.specs.Asked.{rounds_of}
-use Rattle.shm_threads.specs.Moves.{AreMoves, Called, Flushed, Leads, Makes, Moment, Move, entries_by, entries_in, rounds_by, rounds_in}
-use Rattle.shm_threads.specs.Strands.{IsMade}
+use Rattle.shm_threads.proofs.Names.{◌≡◌, ◌≢◌, ◌<◌, ◌+◌, ◌++◌, ℕ, List, [], ◌∷◌, length, take, subst, sym, ap, ◌∙◌, refl, append-nil, eq-eqb, ne_eqb, inl, inr, get_or, set, cases_eq, take_more, FlushReport, WorldState, IsRound, CommandView, Line, rounds_of, AreMoves, Called, Flushed, Leads, Makes, Moment, Move, entries_by, entries_in, rounds_by, rounds_in, IsMade, Strand, Entry}
 use Rattle.shm_threads.specs.declared.strand.Made.{Made}
-use Rattle.shm_threads.specs.declared.strand.Strand.{Strand}
-use Rattle.shm_threads.specs.declared.transcript.Entry.{Entry}
 use Rattle.shm_threads.proofs.Placing.{each-set}
 
 leads-push : (start world : WorldState) (ms : List Moment) (m : Moment) → Leads start ms world → Makes world m.move m.world → Leads start (ms ++ m ∷ []) m.world

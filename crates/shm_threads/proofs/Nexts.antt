@@ -1,14 +1,5 @@
 -- The next call of a strand that can continue.
-use Rattle.std.specs.Prelude.{◌≡◌, ◌<◌, ◌+◌, ℕ, true, List, length}
-use Rattle.std.proofs.Common.{ap, arith, subst, sym, ◌∙◌}
-use Rattle.std.proofs.Math.ListN.{get_or}
-use Rattle.shm_history.specs.WorldState.{WorldState}
-use Rattle.shm_text.specs.Script.{ScriptView}
-use Rattle.shm_threads.specs.Asked.{IsWithin}
-use Rattle.shm_threads.specs.Running.{IsProcessAt, IsRunning}
-use Rattle.shm_threads.specs.Strands.{can_go, pid_of_strand}
-use Rattle.shm_threads.specs.Transcripts.{commands_of}
-use Rattle.shm_threads.specs.declared.strand.Strand.{Strand}
+use Rattle.shm_threads.proofs.Names.{◌≡◌, ◌<◌, ◌+◌, ℕ, true, List, length, ap, arith, subst, sym, ◌∙◌, get_or, WorldState, ScriptView, IsWithin, IsProcessAt, IsRunning, can_go, pid_of_strand, commands_of, Strand}
 use Rattle.shm_threads.proofs.Turns.{as-long, has-line, pid-at}
 
 module _ (script : ScriptView) (start w : WorldState) (ss : List Strand) (made k : ℕ) (s : Strand) (running : IsRunning script start w ss made) (lt : k < length ss) (here : s ≡ get_or ss k s) where

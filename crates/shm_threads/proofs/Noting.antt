@@ -1,10 +1,6 @@
 -- A list whose elements are changed one after the other.
+use Rattle.shm_threads.proofs.Names.{◌≡◌, ◌<◌, ◌+◌, ◌++◌, ◌==◌, ℕ, List, [], ◌∷◌, map, length, take, drop, if◌then◌else◌, ap, ◌∙◌, refl, arith, eq-eqb, get_or, set, ne_eqb, ProcessState}
 use Prim.Native.Nat.{zero, suc}
-use Rattle.std.specs.Prelude.{◌≡◌, ◌<◌, ◌+◌, ◌++◌, ◌==◌, ℕ, List, [], ◌∷◌, map, length, take, drop, if◌then◌else◌}
-use Rattle.std.proofs.Common.{ap, ◌∙◌, refl, arith, eq-eqb}
-use Rattle.std.proofs.Math.ListN.{get_or, set}
-use Rattle.std.proofs.lemmas.Bool.{ne_eqb}
-use Rattle.shm_threads.specs.declared.births.ProcessState.{ProcessState}
 
 module _ {X : Type 0} (f : X → X) where
   -- the first ones changed, and the rest

@@ -1,24 +1,5 @@
 -- The end of a run: no process can continue, so each transcript is whole.
-use Rattle.std.specs.Prelude.{◌≡◌, ◌≤◌, ℕ, true, false, List, [], ◌∷◌, Option, Some, None, length, map, nat_lt, is_some, All}
-use Rattle.std.proofs.Common.{subst, sym, ap, ◌∙◌, refl, arith, inl, inr}
-use Rattle.std.proofs.Math.ListN.{get_or}
-use Rattle.std.proofs.lemmas.Bool.{and_cases, ltb-false, true≢false}
-use Rattle.std.proofs.lemmas.List.{take_all}
-use Rattle.std.proofs.lemmas.List.Elements.{All-map}
-use Rattle.shm_base.specs.History.{IsHistory}
-use Rattle.shm_base.specs.State.{Ended, Life, Live, Machine, Unborn}
-use Rattle.shm_base.specs.Callers.{caller_of}
-use Rattle.shm_base.specs.declared.call.Event.{Event}
-use Rattle.shm_history.specs.WorldState.{WorldState}
-use Rattle.shm_text.specs.Script.{ScriptView}
-use Rattle.shm_threads.specs.Asked.{rounds_of}
-use Rattle.shm_threads.specs.Moves.{entries_in}
-use Rattle.shm_threads.specs.Outcomes.{AreAllMoves, IsOutcome}
-use Rattle.shm_threads.specs.Running.{IsOver}
-use Rattle.shm_threads.specs.Strands.{IsStrand, StandsAt, can_go, life_from, pid_of_strand, transcript_of}
-use Rattle.shm_threads.specs.Transcripts.{HasLines, IsThrough, IsTranscript, commands_of, pid_of}
-use Rattle.shm_threads.specs.declared.strand.Strand.{Strand}
-use Rattle.shm_threads.specs.declared.transcript.Transcript.{Transcript}
+use Rattle.shm_threads.proofs.Names.{◌≡◌, ◌≤◌, ℕ, true, false, List, [], ◌∷◌, Option, Some, None, length, map, nat_lt, is_some, All, subst, sym, ap, ◌∙◌, refl, arith, inl, inr, get_or, and_cases, ltb-false, true≢false, take_all, All-map, IsHistory, Ended, Life, Live, Machine, Unborn, caller_of, Event, WorldState, ScriptView, rounds_of, entries_in, AreAllMoves, IsOutcome, IsOver, IsStrand, StandsAt, can_go, life_from, pid_of_strand, transcript_of, HasLines, IsThrough, IsTranscript, commands_of, pid_of, Strand, Transcript}
 use Rattle.shm_threads.proofs.Entries.{underway-whole}
 use Rattle.shm_threads.proofs.Lives.{calls}
 

@@ -1,17 +1,5 @@
 -- The calls that a run's gate passed, from one call to the next.
-use Rattle.std.specs.Prelude.{◌≡◌, ◌<◌, ◌≤◌, ◌+◌, ◌++◌, ℕ, Bool, true, List, [], ◌∷◌, length, map, All}
-use Rattle.std.proofs.Common.{subst, sym, ap, ◌∙◌, arith, inl, inr}
-use Rattle.std.proofs.Math.ListN.{get_or, set}
-use Rattle.std.proofs.lemmas.Bool.{cases_eq}
-use Rattle.std.proofs.lemmas.List.{length_push}
-use Rattle.std.proofs.lemmas.List.Elements.{All-map}
-use Rattle.shm_text.specs.Script.{ScriptView}
-use Rattle.shm_threads.specs.Asked.{rounds_of}
-use Rattle.shm_threads.specs.Passed.{AreAllPassed, ArePassed, Passes}
-use Rattle.shm_threads.specs.Strands.{IsFresh, transcript_of}
-use Rattle.shm_threads.specs.declared.strand.Strand.{Strand}
-use Rattle.shm_threads.specs.declared.transcript.Entry.{Entry}
-use Rattle.shm_threads.specs.declared.transcript.Transcript.{Transcript}
+use Rattle.shm_threads.proofs.Names.{◌≡◌, ◌<◌, ◌≤◌, ◌+◌, ◌++◌, ℕ, Bool, true, List, [], ◌∷◌, length, map, All, subst, sym, ap, ◌∙◌, arith, inl, inr, get_or, set, cases_eq, length_push, All-map, ScriptView, rounds_of, AreAllPassed, ArePassed, Passes, IsFresh, transcript_of, Strand, Entry, Transcript}
 use Rattle.shm_threads.proofs.Placing.{each-set}
 
 module _ (answers : ℕ → ℕ → Bool → Bool) where

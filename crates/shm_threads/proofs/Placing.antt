@@ -1,15 +1,6 @@
 -- One strand of several that is changed.
-use Rattle.std.specs.Prelude.{◌≡◌, ◌≢◌, ◌<◌, ◌≤◌, ◌+◌, ℕ, zero, suc, true, false, List, [], ◌∷◌, length, All}
-use Rattle.std.proofs.Common.{subst, sym, ap, ◌∙◌, refl, arith, inl, inr, eq-eqb, true≢false}
-use Rattle.std.proofs.Math.ListN.{get_or, set}
-use Rattle.std.proofs.lemmas.Bool.{cases_eq, or_left, or_right}
-use Rattle.std.proofs.lemmas.List.{get_or-set_other, get_or-set_same, length-set}
-use Rattle.shm_base.specs.Processes.{has_pid}
-use Rattle.shm_base.specs.declared.call.Process.{Process}
-use Rattle.shm_life.specs.Start.{are_pids}
-use Rattle.shm_threads.specs.Running.{IsProcessAt}
-use Rattle.shm_threads.specs.Strands.{left_in, left_of}
-use Rattle.shm_threads.specs.declared.strand.Strand.{Strand}
+use Rattle.shm_threads.proofs.Names.{◌≡◌, ◌≢◌, ◌<◌, ◌≤◌, ◌+◌, ℕ, true, false, List, [], ◌∷◌, length, All, subst, sym, ap, ◌∙◌, refl, arith, inl, inr, eq-eqb, true≢false, get_or, set, cases_eq, or_left, or_right, get_or-set_other, get_or-set_same, length-set, has_pid, Process, are_pids, IsProcessAt, left_in, left_of, Strand}
+use Rattle.std.specs.Prelude.{zero, suc}
 
 -- what holds of each, once one is changed
 pub each-set : {X : Type 0} (P Q : X → Type 0) (xs : List X) (k : ℕ) (x : X) → k < length xs → All P xs

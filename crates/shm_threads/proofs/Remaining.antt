@@ -1,13 +1,6 @@
 -- The command lines of a process: how many there are, and those that are left at a line.
-use Rattle.std.specs.Prelude.{◌≡◌, ◌<◌, ◌+◌, ◌++◌, ◌==◌, ℕ, List, [], ◌∷◌, length, drop, filter}
-use Rattle.std.proofs.Common.{suc, ap, ◌∙◌, refl, inl, inr, eq-eqb, ne_eqb}
-use Rattle.std.proofs.Math.ListN.{get_or}
-use Rattle.std.proofs.lemmas.Bool.{cases_eq}
-use Rattle.std.proofs.lemmas.List.{drop_more}
-use Rattle.shm_text.specs.Form.{CommandView}
-use Rattle.shm_text.specs.declared.script.Line.{Line}
-use Rattle.shm_text.specs.declared.script.Line.TheVariants.{Command, Flush}
-use Rattle.shm_threads.specs.Transcripts.{callers_of, commands_of}
+use Rattle.shm_threads.proofs.Names.{◌≡◌, ◌<◌, ◌+◌, ◌++◌, ◌==◌, ℕ, List, [], ◌∷◌, length, drop, filter, ap, ◌∙◌, refl, inl, inr, eq-eqb, ne_eqb, get_or, cases_eq, drop_more, CommandView, Line, Command, Flush, callers_of, commands_of}
+use Rattle.std.proofs.Common.{suc}
 
 first : (pid : ℕ) (l : Line) (ls : List Line) → commands_of pid (l ∷ ls) ≡ commands_of pid (l ∷ []) ++ commands_of pid ls
 first pid (Flush n) ls = refl

@@ -1,10 +1,6 @@
 -- What the threads of a run share may cross threads. A search through all of it at once would take too many steps.
-use denote.RattleType.{RattleType}
-use denote.Param.Send.{IsSend, IsSync, sendable}
-use Rattle.std.proofs.Crossing.{crosses}
+use Rattle.shm_threads.proofs.Names.{RattleType, IsSend, IsSync, sendable, crosses, keeper_send, world_send, Ghosts}
 use Rattle.shm_base.specs.contracts.call.Call as call
-use Rattle.shm_history.proofs.Sent.{keeper_send, world_send}
-use Rattle.shm_pager.specs.declared.pager.Pager.{Ghosts}
 use Rattle.shm_text.specs.contracts.script.Command as command
 use Rattle.shm_text.specs.contracts.script.Line as line
 use Rattle.shm_text.specs.contracts.script.LineAddr as addr

@@ -1,28 +1,6 @@
 -- The invariant of a run before its first call.
-use Rattle.std.specs.Prelude.{◌≡◌, ◌≢◌, ◌<◌, ◌≤◌, ◌+◌, ◌==◌, ◌&&◌, ℕ, zero, suc, true, false, not, List, [], ◌∷◌, Option, Some, None, is_some, length, map, All}
-use Rattle.std.proofs.Common.{subst, sym, ap, ◌∙◌, refl, arith, inl, inr, eq-eqb, ne_eqb, true≢false}
-use Rattle.std.proofs.Math.ListN.{get_or}
-use Rattle.std.proofs.lemmas.Bool.{cases_eq, or_left, or_right, and_from, or_parts}
-use Rattle.std.proofs.lemmas.List.Elements.{All-head, All-nil, All-tail}
-use Rattle.shm_base.specs.History.{IsHistory, LeadsFrom}
-use Rattle.shm_base.specs.Processes.{has_pid}
-use Rattle.shm_base.specs.State.{Machine, life_at_start, runner_at_start, start_of}
-use Rattle.shm_base.specs.declared.call.Event.{Event}
-use Rattle.shm_base.specs.declared.call.Process.{Process}
-use Rattle.shm_base.specs.declared.owner.Cred.{Cred}
-use Rattle.shm_history.specs.WorldState.{WorldState}
-use Rattle.shm_life.specs.Start.{are_pids}
-use Rattle.shm_slots.proofs.Causes.{GoesOn-refl}
-use Rattle.shm_text.specs.Form.{CommandView}
-use Rattle.shm_text.specs.Script.{ScriptView}
-use Rattle.shm_text.specs.declared.script.Line.{Line}
-use Rattle.shm_text.specs.declared.script.Line.TheVariants.{Command, Flush}
-use Rattle.shm_threads.specs.Outcomes.{IsOpened}
-use Rattle.shm_threads.specs.Running.{IsRunning}
-use Rattle.shm_threads.specs.Strands.{IsFresh, IsStrand, StandsAt, left_in, life_from, pid_of_strand}
-use Rattle.shm_threads.specs.Transcripts.{IsAdmitted, IsMarkAllowed, callers_of, commands_of, is_child, pid_in, transcript_events}
-use Rattle.shm_threads.specs.declared.strand.Strand.{Strand}
-use Rattle.shm_threads.specs.declared.transcript.Entry.{Entry}
+use Rattle.shm_threads.proofs.Names.{◌≡◌, ◌≢◌, ◌<◌, ◌≤◌, ◌+◌, ◌==◌, ◌&&◌, ℕ, true, false, not, List, [], ◌∷◌, Option, Some, None, is_some, length, map, All, subst, sym, ap, ◌∙◌, refl, arith, inl, inr, eq-eqb, ne_eqb, true≢false, get_or, cases_eq, or_left, or_right, and_from, or_parts, All-head, All-nil, All-tail, IsHistory, LeadsFrom, has_pid, Machine, life_at_start, runner_at_start, start_of, Event, Process, Cred, WorldState, are_pids, GoesOn-refl, CommandView, ScriptView, Line, Command, Flush, IsOpened, IsRunning, IsFresh, IsStrand, StandsAt, left_in, life_from, pid_of_strand, IsAdmitted, IsMarkAllowed, callers_of, commands_of, is_child, pid_in, transcript_events, Strand, Entry}
+use Rattle.std.specs.Prelude.{zero, suc}
 use Rattle.shm_threads.proofs.Placing.{has-at}
 use Rattle.shm_threads.proofs.Remaining.{count_callers}
 use Rattle.shm_threads.proofs.Turns.{as-long, pid-at, some-process}

@@ -1,19 +1,5 @@
 -- A step of a run: one strand has one more entry, and the others stay as they are.
-use Rattle.std.specs.Prelude.{◌≡◌, ◌≢◌, ◌<◌, ◌++◌, ℕ, Bool, true, false, List, [], ◌∷◌, Option, Some, None, length, MatchBool, All}
-use Rattle.std.proofs.Common.{subst, sym, ap, ◌∙◌, refl, inl, inr}
-use Rattle.std.proofs.Math.ListN.{get_or}
-use Rattle.std.proofs.lemmas.Bool.{cases_Bool}
-use Rattle.std.proofs.lemmas.List.Elements.{All-push}
-use Rattle.shm_base.specs.History.{own_part}
-use Rattle.shm_base.specs.State.{Ended, Life, Live, Machine, Runner, Unborn}
-use Rattle.shm_base.specs.declared.call.Event.{Event}
-use Rattle.shm_text.specs.Form.{CommandView}
-use Rattle.shm_text.specs.Script.{ScriptView}
-use Rattle.shm_text.specs.Variables.{call_of, no_values, values_after}
-use Rattle.shm_threads.specs.Strands.{IsStrand, IsUnderway, StandsAt, life_from}
-use Rattle.shm_threads.specs.Transcripts.{Follows, IsMarkAllowed, commands_of, is_end, is_fork_of, reply_in, transcript_events}
-use Rattle.shm_threads.specs.declared.strand.Strand.{Strand}
-use Rattle.shm_threads.specs.declared.transcript.Entry.{Entry}
+use Rattle.shm_threads.proofs.Names.{◌≡◌, ◌≢◌, ◌<◌, ◌++◌, ℕ, Bool, true, false, List, [], ◌∷◌, Option, Some, None, length, MatchBool, All, subst, sym, ap, ◌∙◌, refl, inl, inr, get_or, cases_Bool, All-push, own_part, Ended, Life, Live, Machine, Runner, Unborn, Event, CommandView, ScriptView, call_of, no_values, values_after, IsStrand, IsUnderway, StandsAt, life_from, Follows, IsMarkAllowed, commands_of, is_end, is_fork_of, reply_in, transcript_events, Strand, Entry}
 use Rattle.shm_threads.proofs.Ages.{Ages, IsLive}
 use Rattle.shm_threads.proofs.Entries.{events-append, own-other, underway-ends, underway-next, unforked-more}
 

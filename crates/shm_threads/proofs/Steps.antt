@@ -1,8 +1,7 @@
 -- What is asked for one after the other, and what that makes of a line, a round, a start.
+use Rattle.shm_threads.proofs.Names.{◌+◌, ◌++◌, ℕ, Bool, true, false, List, [], ◌∷◌, subst, sym, append_assoc, append-nil, Asked, Before, Stepped, After, Adds, asks_of, RoundAsked, May, Round, asks_of_rounds}
 use Prim.Native.Nat.{suc}
-use Rattle.std.specs.Prelude.{◌+◌, ◌++◌, ℕ, Bool, true, false, List, [], ◌∷◌}
-use Rattle.std.proofs.Common.{subst, sym, append_assoc, append-nil}
-use Rattle.shm_threads.specs.Asked.{Asked, Before, Stepped, After, Adds, asks_of, RoundAsked, May, Round, Made, asks_of_rounds}
+use Rattle.shm_threads.specs.Asked.{Made}
 
 pub adds_none : {X : Type 0} → (A : List X → Type 0) → Adds A [] A
 adds_none A log a = subst A (sym (append-nil log)) a

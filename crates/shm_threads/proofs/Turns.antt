@@ -1,34 +1,7 @@
 -- The invariant of a run after a turn of one of its strands.
-use Rattle.std.specs.Prelude.{◌≡◌, ◌≢◌, ◌<◌, ◌≤◌, ◌+◌, ◌++◌, ℕ, Bool, true, false, List, [], ◌∷◌, Some, length, map, slice_get, nat_lt, is_some, MatchBool, All}
-use Rattle.std.proofs.Common.{subst, sym, ap, ◌∙◌, refl, arith, append-nil}
-use Rattle.std.proofs.Math.ListN.{get_or, set}
-use Rattle.std.proofs.lemmas.Bool.{and_parts, ltb-true}
-use Rattle.std.proofs.lemmas.List.{get_or-map, get_or_at, length-map, length_push, map-set, set-get_or}
-use Rattle.std.proofs.lemmas.List.Elements.{All-push}
-use Rattle.std.proofs.lemmas.Option.{get_or_from_slice_get, slice_get_within}
-use Rattle.shm_base.specs.Calls.{ProcessCall}
-use Rattle.shm_base.specs.History.{own_part}
-use Rattle.shm_base.specs.Processes.{has_pid}
-use Rattle.shm_base.specs.State.{Ended, Machine}
-use Rattle.shm_base.specs.Callers.{caller_of}
-use Rattle.shm_base.specs.declared.call.Event.{Event}
-use Rattle.shm_base.specs.declared.call.Process.{Process}
-use Rattle.shm_slots.proofs.Causes.{GoesOn-trans}
-use Rattle.shm_base.specs.declared.paging.FlushReport.{FlushReport}
-use Rattle.shm_history.specs.WorldState.{WorldState, IsRound, event}
-use Rattle.shm_text.specs.Form.{CommandView}
-use Rattle.shm_text.specs.Script.{ScriptView}
-use Rattle.shm_text.specs.declared.script.Line.{Line}
-use Rattle.shm_threads.specs.Asked.{IsNth, rounds_of}
-use Rattle.shm_threads.specs.Moves.{AreMoves, Moment}
-use Rattle.shm_threads.specs.Outcomes.{StartedFrom}
-use Rattle.shm_threads.specs.Running.{IsProcessAt, IsRunning}
-use Rattle.shm_threads.specs.Strands.{IsAnswered, IsMade, IsStrand, can_go, left_in, left_of, life_from, pid_of_strand}
-use Rattle.shm_threads.specs.Transcripts.{IsAdmitted, commands_of, events_of, is_end, pid_in, transcript_events}
+use Rattle.shm_threads.proofs.Names.{◌≡◌, ◌≢◌, ◌<◌, ◌≤◌, ◌+◌, ◌++◌, ℕ, Bool, true, false, List, [], ◌∷◌, Some, length, map, slice_get, nat_lt, is_some, MatchBool, All, subst, sym, ap, ◌∙◌, refl, arith, append-nil, get_or, set, and_parts, ltb-true, get_or-map, get_or_at, length-map, length_push, map-set, set-get_or, All-push, get_or_from_slice_get, slice_get_within, ProcessCall, own_part, has_pid, Ended, Machine, caller_of, Event, Process, GoesOn-trans, FlushReport, WorldState, IsRound, event, CommandView, ScriptView, Line, IsNth, rounds_of, AreMoves, Moment, StartedFrom, IsProcessAt, IsRunning, IsAnswered, IsMade, IsStrand, can_go, left_in, left_of, life_from, pid_of_strand, IsAdmitted, commands_of, events_of, is_end, pid_in, transcript_events, Strand, Answer, HostMemory}
 use Rattle.shm_threads.specs.declared.strand.Made.{Made}
-use Rattle.shm_threads.specs.declared.strand.Strand.{Strand}
-use Rattle.shm_threads.specs.declared.transcript.Answer.{Answer}
-use Rattle.shm_threads.specs.declared.transcript.Answer.TheVariants.{Reply as Replied, HostMemory}
+use Rattle.shm_threads.specs.declared.transcript.Answer.TheVariants.{Reply as Replied}
 use Rattle.shm_threads.proofs.Ages.{IsLive}
 use Rattle.shm_threads.proofs.Answering.{found}
 use Rattle.shm_threads.proofs.Entries.{own-same}

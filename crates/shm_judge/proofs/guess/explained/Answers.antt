@@ -1,6 +1,4 @@
-use Rattle.std.proofs.Common.{rules, subst, sym}
-use Rattle.shm_judge.specs.Judge.{IsExplained}
-use Rattle.shm_schedules.specs.Schedules.{fresh, IsReached}
+use Rattle.shm_judge.proofs.Names.{rules, subst, sym, IsExplained, fresh, IsReached}
 use Rattle.shm_judge.proofs.Verdicts.{explained}
 use Rattle.shm_judge.proofs.guess.explained.Goals as goal
 

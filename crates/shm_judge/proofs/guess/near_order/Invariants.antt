@@ -1,5 +1,4 @@
-use Rattle.std.proofs.Common.{All}
-use Rattle.shm_schedules.specs.Schedules.{fresh, IsReached}
+use Rattle.shm_judge.proofs.Names.{All, fresh, IsReached}
 use Rattle.shm_judge.proofs.guess.near_order.Given as goal
 
 abbrev pub invariant-loop : goal.invariant-loop

@@ -1,7 +1,4 @@
-use Rattle.std.proofs.Common.{rules, ◌≡◌, All, Some, subst, sym}
-use Rattle.std.proofs.lemmas.List.Elements.{All-push}
-use Rattle.shm_schedules.specs.Schedules.{goes, IsReached}
-use Rattle.shm_schedules.proofs.Walking.{follower-reached}
+use Rattle.shm_judge.proofs.Names.{rules, ◌≡◌, All, Some, subst, sym, All-push, goes, IsReached, follower-reached}
 use Rattle.shm_judge.proofs.guess.put_next.Goals as goal
 
 pub returns : goal.returns

@@ -1,7 +1,4 @@
-use Rattle.std.proofs.Common.{rules, ◌≡◌, ◌++◌, ◌∷◌, [], List, arith, subst}
-use Rattle.shm_judge.specs.Searching.{AreExplored}
-use Rattle.shm_outcomes.specs.Nodes.{Node}
-use Rattle.shm_schedules.specs.Schedules.{fresh}
+use Rattle.shm_judge.proofs.Names.{rules, ◌≡◌, ◌++◌, ◌∷◌, [], List, arith, subst, AreExplored, Node, fresh}
 use Rattle.shm_judge.proofs.Verdicts.{admitted, admitted-count, doubt}
 use Rattle.shm_judge.proofs.judging.admit_all.Goals as goal
 

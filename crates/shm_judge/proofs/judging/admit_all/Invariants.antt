@@ -1,7 +1,4 @@
-use Rattle.std.proofs.Common.{◌≡◌, ℕ, ◌+◌, ◌≤◌, length}
-use Rattle.shm_judge.specs.Searching.{AreExplored}
-use Rattle.shm_schedules.specs.Schedules.{fresh}
-use Rattle.shm_base.specs.State.{Machine}
+use Rattle.shm_judge.proofs.Names.{◌≡◌, ℕ, ◌+◌, ◌≤◌, length, AreExplored, fresh, Machine}
 use Rattle.shm_judge.proofs.judging.admit_all.Given as goal
 
 abbrev pub invariant-loop-node : goal.invariant-loop-node

@@ -1,5 +1,4 @@
-use Rattle.std.proofs.Common.{◌≡◌, ◌++◌, take}
-use Rattle.shm_judge.specs.Searching.{successors}
+use Rattle.shm_judge.proofs.Names.{◌≡◌, ◌++◌, take, successors}
 use Rattle.shm_judge.proofs.judging.push_successors.Given as goal
 
 abbrev pub invariant-loop-process : goal.invariant-loop-process

@@ -1,4 +1,4 @@
-use Rattle.std.proofs.Common.{◌∙◌}
+use Rattle.shm_judge.proofs.Names.{◌∙◌}
 use Rattle.shm_judge.proofs.Verdicts.{key-last}
 use Rattle.shm_judge.proofs.judging.put.Goals as goal
 

@@ -1,4 +1,4 @@
-use Rattle.std.proofs.lemmas.List.Sorted.{IsPermutation-refl, IsPermutation-trans}
+use Rattle.shm_judge.proofs.Names.{IsPermutation-refl, IsPermutation-trans}
 use Rattle.shm_judge.proofs.judging.put_in_order.Goals as goal
 
 pub loop-place-init : goal.loop-place-init

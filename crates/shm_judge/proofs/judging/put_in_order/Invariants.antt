@@ -1,4 +1,4 @@
-use Rattle.std.proofs.Common.{IsPermutation}
+use Rattle.shm_judge.proofs.Names.{IsPermutation}
 use Rattle.shm_judge.proofs.judging.put_in_order.Given as goal
 
 abbrev pub invariant-loop-place : goal.invariant-loop-place

@@ -1,5 +1,4 @@
-use Rattle.std.proofs.Common.{rules}
-use Rattle.std.proofs.lemmas.List.Sorted.{IsPermutation-swap}
+use Rattle.shm_judge.proofs.Names.{rules, IsPermutation-swap}
 use Rattle.shm_judge.proofs.judging.put_nearest.Goals as goal
 
 pub returns-then-found-len : goal.returns-then-found-len

@@ -1,10 +1,4 @@
-use Rattle.std.proofs.Common.{rules, ◌≡◌, ◌∙◌, ◌++◌, ◌∷◌, [], List, ap, arith, length, length-append, subst, sym}
-use Rattle.shm_base.specs.State.{Machine}
-use Rattle.shm_judge.specs.Judge.{IsExplained}
-use Rattle.shm_judge.specs.Searching.{IsAdmitted, IsLonger, IsTooMany, successors}
-use Rattle.shm_judge.specs.Logs.{AllFill}
-use Rattle.shm_outcomes.specs.Nodes.{Node, root}
-use Rattle.shm_schedules.specs.Schedules.{fresh}
+use Rattle.shm_judge.proofs.Names.{rules, ◌≡◌, ◌∙◌, ◌++◌, ◌∷◌, [], List, ap, arith, length, length-append, subst, sym, Machine, IsExplained, IsAdmitted, IsLonger, IsTooMany, successors, AllFill, Node, root, fresh}
 use Rattle.shm_judge.proofs.Verdicts.{first-begins, first-doubt, first-explored, goes-on, illegal, legal, permuted, refused, stuck-on}
 use Rattle.shm_judge.proofs.judging.searched.Goals as goal
 

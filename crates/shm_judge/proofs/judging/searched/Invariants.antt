@@ -1,7 +1,4 @@
-use Rattle.std.proofs.Common.{◌≡◌, ◌+◌, ◌-◌, ◌≤◌, [], length}
-use Rattle.shm_judge.specs.Judge.{IsBeginning, stuck_at}
-use Rattle.shm_judge.specs.Searching.{AreExplored}
-use Rattle.shm_schedules.specs.Schedules.{Run, fresh}
+use Rattle.shm_judge.proofs.Names.{◌≡◌, ◌+◌, ◌-◌, ◌≤◌, [], length, IsBeginning, stuck_at, AreExplored, Run, fresh}
 use Rattle.shm_judge.proofs.judging.searched.Given as goal
 
 abbrev pub invariant-nodes : goal.invariant-nodes

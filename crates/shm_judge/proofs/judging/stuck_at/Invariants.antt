@@ -1,5 +1,4 @@
-use Rattle.std.proofs.Common.{◌≡◌, take, flat_map}
-use Rattle.shm_judge.specs.Judge.{newest}
+use Rattle.shm_judge.proofs.Names.{◌≡◌, take, flat_map, newest}
 use Rattle.shm_judge.proofs.judging.stuck_at.Given as goal
 
 abbrev pub invariant-loop-one : goal.invariant-loop-one

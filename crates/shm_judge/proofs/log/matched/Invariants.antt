@@ -1,6 +1,4 @@
-use Rattle.std.proofs.Common.{◌≡◌, ◌↔◌, ◌≤◌, ◌+◌, length, drop}
-use Rattle.shm_schedules.specs.Schedules.{replies_to}
-use Rattle.shm_judge.specs.Logs.{Begins}
+use Rattle.shm_judge.proofs.Names.{◌≡◌, ◌↔◌, ◌≤◌, ◌+◌, length, drop, replies_to, Begins}
 use Rattle.shm_judge.proofs.log.matched.Given as goal
 
 abbrev pub invariant-loop-event : goal.invariant-loop-event

@@ -1,5 +1,4 @@
-use Rattle.std.proofs.Common.{◌≡◌, drop}
-use Rattle.shm_judge.specs.Reading.{declared_as}
+use Rattle.shm_judge.proofs.Names.{◌≡◌, drop, declared_as}
 use Rattle.shm_judge.proofs.reading.declared_as.Given as goal
 
 abbrev pub invariant-loop-process : goal.invariant-loop-process

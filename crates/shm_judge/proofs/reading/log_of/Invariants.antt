@@ -1,6 +1,4 @@
-use Rattle.std.proofs.Common.{◌≡◌, map, take}
-use Rattle.shm_base.specs.declared.call.Process.{Process}
-use Rattle.shm_judge.specs.Reading.{own_answers}
+use Rattle.shm_judge.proofs.Names.{◌≡◌, map, take, Process, own_answers}
 use Rattle.shm_judge.proofs.reading.log_of.Given as goal
 
 abbrev pub invariant-loop-process : goal.invariant-loop-process

@@ -1,5 +1,4 @@
-use Rattle.std.proofs.Common.{◌≡◌, take}
-use Rattle.shm_judge.specs.Reading.{own_answers}
+use Rattle.shm_judge.proofs.Names.{◌≡◌, take, own_answers}
 use Rattle.shm_judge.proofs.reading.own_answers.Given as goal
 
 abbrev pub invariant-loop-entry : goal.invariant-loop-entry

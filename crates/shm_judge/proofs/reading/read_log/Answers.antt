@@ -1,5 +1,4 @@
-use Rattle.std.proofs.Common.{rules, ◌<◌, arith, length}
-use Rattle.shm_judge.specs.Reading.{entries_of}
+use Rattle.shm_judge.proofs.Names.{rules, ◌<◌, arith, length, entries_of}
 use Rattle.shm_judge.proofs.Entries.{one-line, refused-line}
 use Rattle.shm_judge.proofs.reading.read_log.Goals as goal
 

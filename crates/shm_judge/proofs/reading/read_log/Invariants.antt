@@ -1,5 +1,4 @@
-use Rattle.std.proofs.Common.{◌≡◌, ◌+◌, ◌≤◌, length}
-use Rattle.shm_judge.specs.Reading.{all_before, entries_from, entries_of, lines_in}
+use Rattle.shm_judge.proofs.Names.{◌≡◌, ◌+◌, ◌≤◌, length, all_before, entries_from, entries_of, lines_in}
 use Rattle.shm_judge.proofs.reading.read_log.Given as goal
 
 abbrev pub invariant-loop-rest : goal.invariant-loop-rest

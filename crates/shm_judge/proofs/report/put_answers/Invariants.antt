@@ -1,5 +1,4 @@
-use Rattle.std.proofs.Common.{◌≡◌, ◌++◌, drop}
-use Rattle.shm_judge.specs.Report.{answers_text}
+use Rattle.shm_judge.proofs.Names.{◌≡◌, ◌++◌, drop, answers_text}
 use Rattle.shm_judge.proofs.report.put_answers.Given as goal
 
 abbrev pub invariant-loop-place : goal.invariant-loop-place

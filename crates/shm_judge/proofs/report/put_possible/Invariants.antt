@@ -1,5 +1,4 @@
-use Rattle.std.proofs.Common.{◌≡◌, ◌++◌, flat_map, take}
-use Rattle.shm_judge.specs.Report.{possible_text}
+use Rattle.shm_judge.proofs.Names.{◌≡◌, ◌++◌, flat_map, take, possible_text}
 use Rattle.shm_judge.proofs.report.put_possible.Given as goal
 
 abbrev pub invariant-loop-event : goal.invariant-loop-event

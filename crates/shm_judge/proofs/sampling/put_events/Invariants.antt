@@ -1,5 +1,4 @@
-use Rattle.std.proofs.Common.{◌≡◌, ◌++◌, ◌+◌, drop}
-use Rattle.shm_print.specs.Text.{events_text}
+use Rattle.shm_judge.proofs.Names.{◌≡◌, ◌++◌, ◌+◌, drop, events_text}
 use Rattle.shm_judge.proofs.sampling.put_events.Given as goal
 
 abbrev pub invariant-loop-event : goal.invariant-loop-event

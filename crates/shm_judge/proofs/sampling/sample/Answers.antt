@@ -1,6 +1,4 @@
-use Rattle.std.proofs.Common.{rules, ◌≡◌, ◌<◌, [], subst, sym}
-use Rattle.shm_judge.specs.Sampling.{IsDrawn, turns}
-use Rattle.shm_schedules.specs.Schedules.{Run, after, fresh}
+use Rattle.shm_judge.proofs.Names.{rules, ◌≡◌, ◌<◌, [], subst, sym, IsDrawn, turns, Run, after, fresh}
 use Rattle.shm_judge.proofs.Drawing.{drawn-next, fewer-left, lines_left, one-more, whole}
 use Rattle.shm_judge.proofs.sampling.sample.Goals as goal
 

@@ -1,5 +1,4 @@
-use Rattle.shm_judge.specs.Sampling.{LeadsDrawn}
-use Rattle.shm_schedules.specs.Schedules.{fresh, schedule_of}
+use Rattle.shm_judge.proofs.Names.{LeadsDrawn, fresh, schedule_of}
 use Rattle.shm_judge.proofs.Drawing.{lines_left}
 use Rattle.shm_judge.proofs.sampling.sample.Given as goal
 

@@ -1,4 +1,4 @@
-use Rattle.shm_schedules.specs.Schedules.{fresh}
+use Rattle.shm_judge.proofs.Names.{fresh}
 use Rattle.shm_judge.proofs.Drawing.{samples-more}
 use Rattle.shm_judge.proofs.sampling.samples.Goals as goal
 

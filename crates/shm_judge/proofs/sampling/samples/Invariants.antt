@@ -1,5 +1,4 @@
-use Rattle.shm_judge.specs.Sampling.{AreSamples}
-use Rattle.shm_schedules.specs.Schedules.{fresh}
+use Rattle.shm_judge.proofs.Names.{AreSamples, fresh}
 use Rattle.shm_judge.proofs.sampling.samples.Given as goal
 
 abbrev pub invariant-loop-done : goal.invariant-loop-done

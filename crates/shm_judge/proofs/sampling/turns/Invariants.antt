@@ -1,5 +1,4 @@
-use Rattle.std.proofs.Common.{◌≡◌, take}
-use Rattle.shm_judge.specs.Sampling.{turns_of}
+use Rattle.shm_judge.proofs.Names.{◌≡◌, take, turns_of}
 use Rattle.shm_judge.proofs.sampling.turns.Given as goal
 
 abbrev pub invariant-loop-process : goal.invariant-loop-process

@@ -1,6 +1,4 @@
-use Rattle.std.proofs.Common.{◌≡◌, ◌++◌, take}
-use Rattle.std.specs.Prelude.{filter}
-use Rattle.shm_outcomes.specs.Changes.{is_above}
+use Rattle.shm_outcomes.proofs.Names.{◌≡◌, ◌++◌, take, filter, is_above}
 use Rattle.shm_outcomes.proofs.effects.push_above.Given as goal
 
 abbrev pub invariant-loop-other : goal.invariant-loop-other

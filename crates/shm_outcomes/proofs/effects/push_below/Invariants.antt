@@ -1,6 +1,4 @@
-use Rattle.std.proofs.Common.{◌≡◌, ◌++◌, take}
-use Rattle.std.specs.Prelude.{filter}
-use Rattle.shm_outcomes.specs.Changes.{is_below}
+use Rattle.shm_outcomes.proofs.Names.{◌≡◌, ◌++◌, take, filter, is_below}
 use Rattle.shm_outcomes.proofs.effects.push_below.Given as goal
 
 abbrev pub invariant-loop-other : goal.invariant-loop-other

@@ -1,5 +1,4 @@
-use Rattle.std.proofs.Common.{◌≡◌, ◌++◌, map, take}
-use Rattle.shm_outcomes.specs.Changes.{wrote}
+use Rattle.shm_outcomes.proofs.Names.{◌≡◌, ◌++◌, map, take, wrote}
 use Rattle.shm_outcomes.proofs.effects.push_changes.Given as goal
 
 abbrev pub invariant-loop-write : goal.invariant-loop-write

@@ -1,5 +1,4 @@
-use Rattle.std.proofs.Common.{◌≡◌, ◌+◌, drop}
-use Rattle.shm_outcomes.specs.Changes.{puts}
+use Rattle.shm_outcomes.proofs.Names.{◌≡◌, ◌+◌, drop, puts}
 use Rattle.shm_outcomes.proofs.effects.puts.Given as goal
 
 abbrev pub invariant-loop-byte : goal.invariant-loop-byte

@@ -1,6 +1,4 @@
-use Rattle.std.proofs.Common.{rules, ◌≡◌, Contains, inl, refl, subst}
-use Rattle.shm_outcomes.specs.Frontier.{IsAdded, IsOneTooMany, Path, path, path_after, states_in}
-use Rattle.shm_outcomes.specs.Search.{IfBound}
+use Rattle.shm_outcomes.proofs.Names.{rules, ◌≡◌, Contains, inl, refl, subst, IsAdded, IsOneTooMany, Path, path, path_after, states_in, IfBound}
 use Rattle.shm_outcomes.proofs.levels.add_path.Goals as goal
 
 pub returns-in_err-add-clause-err : goal.returns-in_err-add-clause-err

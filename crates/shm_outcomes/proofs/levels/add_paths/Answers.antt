@@ -1,5 +1,4 @@
-use Rattle.std.proofs.Common.{rules, sym}
-use Rattle.shm_outcomes.specs.Frontier.{path}
+use Rattle.shm_outcomes.proofs.Names.{rules, sym, path}
 use Rattle.shm_outcomes.proofs.Adding.{added-at, full-at}
 use Rattle.shm_outcomes.proofs.levels.add_paths.Goals as goal
 

@@ -1,5 +1,4 @@
-use Rattle.std.proofs.Common.{take}
-use Rattle.shm_outcomes.specs.Frontier.{AreAdded, path, paths_after}
+use Rattle.shm_outcomes.proofs.Names.{take, AreAdded, path, paths_after}
 use Rattle.shm_outcomes.proofs.levels.add_paths.Given as goal
 
 abbrev pub invariant-loop-transition : goal.invariant-loop-transition

@@ -1,5 +1,4 @@
-use Rattle.std.proofs.Common.{◌≡◌, take, map}
-use Rattle.shm_outcomes.specs.Masking.{hidden}
+use Rattle.shm_outcomes.proofs.Names.{◌≡◌, take, map, hidden}
 use Rattle.shm_outcomes.proofs.masking.hidden_replies.Given as goal
 
 abbrev pub invariant-loop-reply : goal.invariant-loop-reply

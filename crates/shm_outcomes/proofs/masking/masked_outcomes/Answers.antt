@@ -1,9 +1,4 @@
-use Rattle.std.proofs.Common.{rules, ◌≡◌, arith, length, subst, sym, List}
-use Rattle.shm_text.specs.Script.{ScriptView}
-use Rattle.shm_outcomes.specs.Masking.{AreMaskedOutcomes, hidden_finding}
-use Rattle.shm_schedules.specs.Schedules.{Run}
-use Rattle.shm_outcomes.specs.Search.{AreOutcomes, IsInserted}
-use Rattle.shm_schedules.specs.Finding.{Finding}
+use Rattle.shm_outcomes.proofs.Names.{rules, ◌≡◌, arith, length, subst, sym, List, ScriptView, AreMaskedOutcomes, hidden_finding, Run, AreOutcomes, IsInserted, Finding}
 use Rattle.shm_outcomes.proofs.Hiding.{AreHidden, all-hidden, more-hidden}
 use Rattle.shm_outcomes.proofs.masking.masked_outcomes.Goals as goal
 

@@ -1,6 +1,4 @@
-use Rattle.std.proofs.Common.{arith, ◌∙◌, ◌++◌, ◌∷◌, [], List, ap, sym, take}
-use Rattle.shm_base.specs.declared.call.Reply.{Reply}
-use Rattle.shm_outcomes.specs.Groups.{relevant_all}
+use Rattle.shm_outcomes.proofs.Names.{arith, ◌∙◌, ◌++◌, ◌∷◌, [], List, ap, sym, take, Reply, relevant_all}
 use Rattle.shm_outcomes.proofs.Relevance.{relevant-all-more}
 use Rattle.shm_outcomes.proofs.relevant.relevant_all.Goals as goal
 

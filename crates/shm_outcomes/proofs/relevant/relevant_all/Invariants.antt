@@ -1,5 +1,4 @@
-use Rattle.std.proofs.Common.{◌≡◌, take}
-use Rattle.shm_outcomes.specs.Groups.{relevant_all}
+use Rattle.shm_outcomes.proofs.Names.{◌≡◌, take, relevant_all}
 use Rattle.shm_outcomes.proofs.relevant.relevant_all.Given as goal
 
 abbrev pub invariant-loop-index : goal.invariant-loop-index

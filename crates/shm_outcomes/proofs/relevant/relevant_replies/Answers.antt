@@ -1,5 +1,4 @@
-use Rattle.std.proofs.Common.{rules, ◌≡◌, ◌∙◌, ◌++◌, List, ap, drop, sym}
-use Rattle.shm_base.specs.declared.call.Reply.{Reply}
+use Rattle.shm_outcomes.proofs.Names.{rules, ◌≡◌, ◌∙◌, ◌++◌, List, ap, drop, sym, Reply}
 use Rattle.shm_outcomes.proofs.Relevance.{relevant-skip}
 use Rattle.shm_outcomes.proofs.relevant.relevant_replies.Goals as goal
 

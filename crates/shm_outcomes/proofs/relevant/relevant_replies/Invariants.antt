@@ -1,5 +1,4 @@
-use Rattle.std.proofs.Common.{◌≡◌, ◌≤◌, ◌++◌, length, drop}
-use Rattle.shm_outcomes.specs.Groups.{relevant_replies}
+use Rattle.shm_outcomes.proofs.Names.{◌≡◌, ◌≤◌, ◌++◌, length, drop, relevant_replies}
 use Rattle.shm_outcomes.proofs.relevant.relevant_replies.Given as goal
 
 abbrev pub invariant-loop-line : goal.invariant-loop-line

@@ -1,8 +1,4 @@
-use Rattle.std.proofs.Common.{rules, ◌≡◌, ◌∙◌, [], ap, subst, sym}
-use Rattle.shm_base.specs.State.{Machine}
-use Rattle.shm_outcomes.specs.Levels.{IsLevelFull, IsNextLevel, Level, first_level}
-use Rattle.shm_schedules.specs.Schedules.{Run, fresh}
-use Rattle.shm_outcomes.specs.Search.{AreOutcomes, IfBound}
+use Rattle.shm_outcomes.proofs.Names.{rules, ◌≡◌, ◌∙◌, [], ap, subst, sym, Machine, IsLevelFull, IsNextLevel, Level, first_level, Run, fresh, AreOutcomes, IfBound}
 use Rattle.shm_outcomes.proofs.Complete.{AreSearched, first-cause, first-searched, less-left, next-cause, next-counted, next-searched, searched-all, within-level}
 use Rattle.shm_outcomes.proofs.search.outcomes.Goals as goal
 

@@ -1,5 +1,4 @@
-use Rattle.std.proofs.Common.{◌≡◌, ◌++◌, ◌+◌, drop}
-use Rattle.shm_outcomes.specs.Text.{findings_text}
+use Rattle.shm_outcomes.proofs.Names.{◌≡◌, ◌++◌, ◌+◌, drop, findings_text}
 use Rattle.shm_outcomes.proofs.text.outcomes_text.Given as goal
 
 abbrev pub invariant-loop-finding : goal.invariant-loop-finding

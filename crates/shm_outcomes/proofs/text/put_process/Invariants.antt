@@ -1,5 +1,4 @@
-use Rattle.std.proofs.Common.{◌≡◌, ◌++◌, take}
-use Rattle.shm_outcomes.specs.Text.{process_text}
+use Rattle.shm_outcomes.proofs.Names.{◌≡◌, ◌++◌, take, process_text}
 use Rattle.shm_outcomes.proofs.text.put_process.Given as goal
 
 abbrev pub invariant-loop-event : goal.invariant-loop-event

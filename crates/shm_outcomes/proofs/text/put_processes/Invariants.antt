@@ -1,5 +1,4 @@
-use Rattle.std.proofs.Common.{◌≡◌, ◌++◌, take, flat_map}
-use Rattle.shm_outcomes.specs.Text.{process_text}
+use Rattle.shm_outcomes.proofs.Names.{◌≡◌, ◌++◌, take, flat_map, process_text}
 use Rattle.shm_outcomes.proofs.text.put_processes.Given as goal
 
 abbrev pub invariant-loop-process : goal.invariant-loop-process

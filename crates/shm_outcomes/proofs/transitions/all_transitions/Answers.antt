@@ -1,7 +1,4 @@
-use Rattle.std.proofs.Common.{rules, ◌≡◌, ◌<◌, ◌+◌, List, length, subst, sym, take, ℕ}
-use Rattle.std.specs.Prelude.{slice_index_or}
-use Rattle.shm_outcomes.specs.Nodes.{Node}
-use Rattle.shm_outcomes.specs.Groups.{AreAllTransitions, AreTransitions}
+use Rattle.shm_outcomes.proofs.Names.{rules, ◌≡◌, ◌<◌, ◌+◌, List, length, subst, sym, take, ℕ, slice_index_or, Node, AreAllTransitions, AreTransitions}
 use Rattle.shm_outcomes.proofs.Grouping.{all-transitions-more, no-all-transitions, put-none, put-trans, put-wider}
 use Rattle.shm_outcomes.proofs.transitions.all_transitions.Goals as goal
 

@@ -1,5 +1,4 @@
-use Rattle.std.proofs.Common.{take}
-use Rattle.shm_outcomes.specs.Groups.{AreAllTransitions, ArePut}
+use Rattle.shm_outcomes.proofs.Names.{take, AreAllTransitions, ArePut}
 use Rattle.shm_outcomes.proofs.transitions.all_transitions.Given as goal
 
 abbrev pub invariant-loop-group : goal.invariant-loop-group

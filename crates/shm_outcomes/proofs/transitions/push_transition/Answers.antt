@@ -1,8 +1,4 @@
-use Rattle.std.proofs.Common.{rules, inl, inr, refl, ◌≡◌, ◌∷◌, [], Some, List, length, slice_index_or, ap, ◌∙◌}
-use Rattle.shm_base.specs.declared.call.Event.{Event}
-use Rattle.shm_outcomes.specs.Nodes.{successor}
-use Rattle.shm_outcomes.specs.declared.transitions.Transition.{Transition}
-use Rattle.shm_schedules.specs.Schedules.{next}
+use Rattle.shm_outcomes.proofs.Names.{rules, inl, inr, refl, ◌≡◌, ◌∷◌, [], Some, List, length, slice_index_or, ap, ◌∙◌, Event, successor, Transition, next}
 use Rattle.shm_outcomes.proofs.Grouping.{transition-some, one-from, put-none, put-one}
 use Rattle.shm_outcomes.proofs.transitions.push_transition.Goals as goal
 

@@ -1,4 +1,4 @@
-use Rattle.std.proofs.Common.{◌∷◌, []}
+use Rattle.shm_outcomes.proofs.Names.{◌∷◌, []}
 use Rattle.shm_outcomes.proofs.Grouping.{no-transitions, put-none, put-trans, transitions-more}
 use Rattle.shm_outcomes.proofs.transitions.transitions_of.Goals as goal
 

@@ -1,5 +1,4 @@
-use Rattle.std.proofs.Common.{◌∷◌, [], take}
-use Rattle.shm_outcomes.specs.Groups.{AreTransitions, ArePut}
+use Rattle.shm_outcomes.proofs.Names.{◌∷◌, [], take, AreTransitions, ArePut}
 use Rattle.shm_outcomes.proofs.transitions.transitions_of.Given as goal
 
 abbrev pub invariant-loop-process : goal.invariant-loop-process

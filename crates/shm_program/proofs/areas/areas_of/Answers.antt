@@ -1,6 +1,4 @@
-use Rattle.std.proofs.Common.{arith}
-use Rattle.std.proofs.lemmas.List.{take_all}
-use Rattle.shm_program.specs.Areas.{IsAreaOf}
+use Rattle.shm_program.proofs.Names.{arith, take_all, IsAreaOf}
 use Rattle.shm_program.proofs.Named.{named}
 use Rattle.shm_program.proofs.Zipped.{zipped-more}
 use Rattle.shm_program.proofs.areas.areas_of.Goals as goal

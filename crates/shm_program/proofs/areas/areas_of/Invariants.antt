@@ -1,6 +1,4 @@
-use Rattle.std.proofs.Common.{take}
-use Rattle.std.specs.List.{AllZip}
-use Rattle.shm_program.specs.Areas.{IsAreaOf}
+use Rattle.shm_program.proofs.Names.{take, AllZip, IsAreaOf}
 use Rattle.shm_program.proofs.areas.areas_of.Given as goal
 
 -- the pagers of the words so far

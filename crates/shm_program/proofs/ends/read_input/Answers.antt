@@ -1,6 +1,4 @@
-use Rattle.std.proofs.Common.{rules, sym, subst}
-use Rattle.std.specs.Io.KnownBytes.{Consumes}
-use Rattle.std.proofs.KnownBytes.{Consumes-nil}
+use Rattle.shm_program.proofs.Names.{rules, sym, subst, Consumes, Consumes-nil}
 use Rattle.shm_program.proofs.ends.read_input.Goals as goal
 
 pub loop-init : goal.loop-init

@@ -1,5 +1,4 @@
-use Rattle.std.proofs.Common.{◌≤◌, length}
-use Rattle.std.specs.Io.KnownBytes.{Consumes}
+use Rattle.shm_program.proofs.Names.{◌≤◌, length, Consumes}
 use Rattle.shm_program.proofs.ends.read_input.Given as goal
 
 -- what was read so far

@@ -1,8 +1,4 @@
-use Rattle.std.proofs.Common.{◌≡◌, ap, sym, ◌∙◌, Ok}
-use Rattle.shm_text.specs.Reading.{script_of, IsFaultOf}
-use Rattle.shm_text.proofs.ItemSteps.{short_script}
-use Rattle.shm_program.specs.Runs.{is_serial}
-use Rattle.shm_program.specs.Ends.{is_reading}
+use Rattle.shm_program.proofs.Names.{◌≡◌, ap, sym, ◌∙◌, Ok, script_of, IsFaultOf, short_script, is_serial, is_reading}
 use Rattle.shm_program.proofs.Causes.{refusals, whole_input, refused_serial, refused_reading}
 use Rattle.shm_program.proofs.ends.whole_script.Goals as goal
 

@@ -1,10 +1,4 @@
-use Rattle.std.proofs.Common.{arith, rules, length, length-append, ◌<◌, [], subst, append-nil, Option, ◌≡◌, ℕ, List, ◌++◌, ◌∙◌, take, drop, sym, ap, append_assoc}
-use Rattle.std.proofs.KnownBytes.{Appends-trans, Appends-kept}
-use Rattle.std.specs.Io.KnownBytes.{Appends}
-use Rattle.shm_program.specs.Runs.{IsPart}
-use Rattle.std.proofs.Math.Seq.{take-append_seam}
-use Rattle.std.proofs.lemmas.List.{take-append-drop}
-use Rattle.std.proofs.lemmas.Grind.{common_steps}
+use Rattle.shm_program.proofs.Names.{arith, rules, length, length-append, ◌<◌, [], subst, append-nil, Option, ◌≡◌, ℕ, List, ◌++◌, ◌∙◌, take, drop, sym, ap, append_assoc, Appends-trans, Appends-kept, Appends, IsPart, take-append_seam, take-append-drop, common_steps}
 use Rattle.shm_program.proofs.ends.write_output.Goals as goal
 
 -- what was written and what is left make the whole

@@ -1,5 +1,4 @@
-use Rattle.std.proofs.Common.{◌≡◌, ℕ, List, ◌++◌, length}
-use Rattle.std.specs.Io.KnownBytes.{Appends}
+use Rattle.shm_program.proofs.Names.{◌≡◌, ℕ, List, ◌++◌, length, Appends}
 use Rattle.shm_program.proofs.ends.write_output.Given as goal
 
 -- what was written so far

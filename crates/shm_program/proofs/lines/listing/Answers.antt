@@ -1,6 +1,4 @@
-use Rattle.std.proofs.Common.{rules, arith, ◌≡◌, ◌<◌, ◌+◌, ◌∙◌, ap, sym, ◌++◌, length, drop, string_bytes, append_assoc}
-use Rattle.shm_life.specs.Listed.{segment_at}
-use Rattle.shm_program.specs.Listing.{line_shown, lines_from}
+use Rattle.shm_program.proofs.Names.{rules, arith, ◌≡◌, ◌<◌, ◌+◌, ◌∙◌, ap, sym, ◌++◌, length, drop, string_bytes, append_assoc, segment_at, line_shown, lines_from}
 use Rattle.shm_program.proofs.Rows.{lines_from-next}
 use Rattle.shm_program.proofs.lines.listing.Goals as goal
 

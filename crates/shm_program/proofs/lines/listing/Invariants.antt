@@ -1,6 +1,4 @@
-use Rattle.std.proofs.Common.{◌≡◌, ◌++◌, length, drop}
-use Rattle.std.specs.Prelude.{string_bytes}
-use Rattle.shm_program.specs.Listing.{lines_from, listing_of}
+use Rattle.shm_program.proofs.Names.{◌≡◌, ◌++◌, length, drop, string_bytes, lines_from, listing_of}
 use Rattle.shm_program.proofs.lines.listing.Given as goal
 
 -- the text and the lines of the indexes that are left make the listing

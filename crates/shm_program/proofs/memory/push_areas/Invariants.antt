@@ -1,5 +1,4 @@
-use Rattle.std.proofs.Common.{◌≡◌, ◌++◌, length, drop, string_bytes}
-use Rattle.shm_program.specs.Record.{numbered, area_text}
+use Rattle.shm_program.proofs.Names.{◌≡◌, ◌++◌, length, drop, string_bytes, numbered, area_text}
 use Rattle.shm_program.proofs.memory.push_areas.Given as goal
 
 -- the lines so far, and then those of the areas that are left

@@ -1,5 +1,4 @@
-use Rattle.std.proofs.Common.{◌≡◌, ◌++◌, length, drop, string_bytes}
-use Rattle.shm_program.specs.Record.{numbered, frame_line}
+use Rattle.shm_program.proofs.Names.{◌≡◌, ◌++◌, length, drop, string_bytes, numbered, frame_line}
 use Rattle.shm_program.proofs.memory.push_owned.Given as goal
 
 -- the lines so far, and then those of the frames that are left

@@ -1,6 +1,4 @@
-use Rattle.std.proofs.Common.{◌≡◌, length}
-use Rattle.shm_slots.specs.View.{area_at}
-use Rattle.shm_program.specs.Record.{numbered, slot_line}
+use Rattle.shm_program.proofs.Names.{◌≡◌, length, area_at, numbered, slot_line}
 use Rattle.shm_program.proofs.Numbered.{numbered_padded}
 use Rattle.shm_program.proofs.memory.push_owners.Goals as goal
 

@@ -1,5 +1,4 @@
-use Rattle.std.proofs.Common.{◌≡◌, ◌++◌, length, drop, string_bytes}
-use Rattle.shm_program.specs.Record.{numbered, slot_line}
+use Rattle.shm_program.proofs.Names.{◌≡◌, ◌++◌, length, drop, string_bytes, numbered, slot_line}
 use Rattle.shm_program.proofs.memory.push_slots.Given as goal
 
 -- the lines so far, and then those of the slots that are left

@@ -1,6 +1,4 @@
-use Rattle.std.proofs.Common.{◌≡◌, ◌++◌, List, drop, map, option_map}
-use Rattle.shm_program.specs.declared.options.SwapWord.{SwapWord}
-use Rattle.shm_program.specs.Options.{each_swap}
+use Rattle.shm_program.proofs.Names.{◌≡◌, ◌++◌, List, drop, map, option_map, SwapWord, each_swap}
 use Rattle.shm_program.proofs.options.read_swaps.Given as goal
 
 abbrev pub invariant-loop-word : goal.invariant-loop-word

@@ -1,6 +1,4 @@
-use Rattle.std.proofs.Common.{◌≡◌, ◌++◌, drop, string_bytes}
-use Rattle.shm_areas.specs.Arranged.{bare_all}
-use Rattle.shm_program.specs.Record.{pieces_text}
+use Rattle.shm_program.proofs.Names.{◌≡◌, ◌++◌, drop, string_bytes, bare_all, pieces_text}
 use Rattle.shm_program.proofs.processes.push_pieces.Given as goal
 
 -- the lines so far, and then those of the pieces that are left

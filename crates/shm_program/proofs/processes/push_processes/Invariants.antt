@@ -1,5 +1,4 @@
-use Rattle.std.proofs.Common.{◌≡◌, ◌++◌, drop, string_bytes}
-use Rattle.shm_program.specs.Record.{processes_text}
+use Rattle.shm_program.proofs.Names.{◌≡◌, ◌++◌, drop, string_bytes, processes_text}
 use Rattle.shm_program.proofs.processes.push_processes.Given as goal
 
 -- the lines so far, and then those of the processes that are left

@@ -1,6 +1,4 @@
-use Rattle.std.proofs.Common.{rules, ◌≡◌, ◌<◌, ◌∙◌, ap, sym, ℕ, List, Option, Some, set, get_or, length}
-use Rattle.shm_program.specs.Values.{HolderView, values_of, with_values}
-use Rattle.shm_text.specs.Variables.{values_after}
+use Rattle.shm_program.proofs.Names.{rules, ◌≡◌, ◌<◌, ◌∙◌, ap, sym, ℕ, List, Option, Some, set, get_or, length, HolderView, values_of, with_values, values_after}
 use Rattle.shm_program.proofs.Holders.{values_at, set_at}
 use Rattle.shm_program.proofs.values.take_reply.Goals as goal
 

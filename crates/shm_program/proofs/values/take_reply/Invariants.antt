@@ -1,5 +1,4 @@
-use Rattle.std.proofs.Common.{◌≡◌, ◌++◌, ℕ, List, Option, take, drop}
-use Rattle.shm_program.specs.Values.{values_of, with_values}
+use Rattle.shm_program.proofs.Names.{◌≡◌, ◌++◌, ℕ, List, Option, take, drop, values_of, with_values}
 use Rattle.shm_program.proofs.values.take_reply.Given as goal
 
 -- the process is among the holders that are left, if anywhere

@@ -1,8 +1,4 @@
-use Rattle.std.proofs.Common.{arith, ◌≡◌, ◌+◌, ◌∙◌, ap, sym, subst, refl, List, [], ◌∷◌, drop, get_or}
-use Rattle.std.proofs.lemmas.Grind.{common_steps}
-use Rattle.std.proofs.lemmas.List.{drop_more}
-use Rattle.shm_text.specs.declared.script.Line.{Line}
-use Rattle.shm_program.specs.Running.{HaveRun, RunStep}
+use Rattle.shm_runner.proofs.Names.{arith, ◌≡◌, ◌+◌, ◌∙◌, ap, sym, subst, refl, List, [], ◌∷◌, drop, get_or, common_steps, drop_more, Line, HaveRun, RunStep}
 use Rattle.shm_runner.proofs.serial.run_each.Goals as goal
 
 pub loop-line-init : goal.loop-line-init

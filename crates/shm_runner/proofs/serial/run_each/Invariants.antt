@@ -1,7 +1,4 @@
-use Rattle.std.proofs.Common.{List, drop}
-use Rattle.shm_history.specs.WorldState.{WorldState}
-use Rattle.shm_program.specs.Running.{HaveRun, RunStep}
-use Rattle.shm_program.specs.Values.{HolderView}
+use Rattle.shm_runner.proofs.Names.{List, drop, WorldState, HaveRun, RunStep, HolderView}
 use Rattle.shm_runner.proofs.serial.run_each.Given as goal
 
 -- if the lines that are left run from here, all lines have run

@@ -1,7 +1,4 @@
-use Rattle.std.proofs.Common.{◌≡◌, subst, sym}
-use Rattle.shm_program.proofs.Causes.{silents_as}
-use Rattle.shm_program.proofs.Texts.{written_as}
-use Rattle.shm_runner.specs.Output.{IsOutput, world_text}
+use Rattle.shm_runner.proofs.Names.{◌≡◌, subst, sym, silents_as, written_as, IsOutput, world_text}
 use Rattle.shm_runner.proofs.Opened.{sound-world, starts}
 use Rattle.shm_runner.proofs.Texts.{serial_text}
 use Rattle.shm_runner.proofs.serial.run_in.Goals as goal

@@ -1,4 +1,4 @@
-use Rattle.std.proofs.Common.{rules}
+use Rattle.shm_runner.proofs.Names.{rules}
 use Rattle.shm_runner.proofs.Started.{script-ran}
 use Rattle.shm_runner.proofs.serial.run_lines.Goals as goal
 

@@ -1,7 +1,4 @@
-use Rattle.std.proofs.Common.{◌≡◌, ap, map, length}
-use Rattle.shm_fault.specs.Store.{StoreView}
-use Rattle.shm_program.specs.Runs.{handed_in}
-use Rattle.shm_program.proofs.Causes.{world_causes, world_serials, stop_cause, stop_serial, stop_silent}
+use Rattle.shm_runner.proofs.Names.{◌≡◌, ap, map, length, StoreView, handed_in, world_causes, world_serials, stop_cause, stop_serial, stop_silent}
 use Rattle.shm_runner.proofs.serial.run_script.Goals as goal
 
 pub returns-in-Ok-clause-ok : goal.returns-in-Ok-clause-ok

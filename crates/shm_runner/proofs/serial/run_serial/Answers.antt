@@ -1,9 +1,4 @@
-use Rattle.std.proofs.Common.{map, length}
-use Rattle.std.specs.Io.KnownBytes.{IsAtEnd}
-use Rattle.shm_program.specs.Runs.{handed_in}
-use Rattle.shm_runner.specs.Output.{IsOutput}
-use Rattle.shm_program.proofs.Causes.{anyway, causes, read_silent, silent_for}
-use Rattle.shm_program.proofs.Texts.{shows}
+use Rattle.shm_runner.proofs.Names.{map, length, IsAtEnd, handed_in, IsOutput, anyway, causes, read_silent, silent_for, shows}
 use Rattle.shm_runner.proofs.serial.run_serial.Goals as goal
 
 pub returns-in-Ok-clause-ok : goal.returns-in-Ok-clause-ok

@@ -1,5 +1,4 @@
-use Rattle.std.proofs.Common.{inl, rules}
-use Rattle.shm_program.proofs.Causes.{world_causes, world_serials}
+use Rattle.shm_runner.proofs.Names.{inl, rules, world_causes, world_serials}
 use Rattle.shm_runner.proofs.Causes.{ended_cause, ended_silent, ended_fails, serials_fail, ungated}
 use Rattle.shm_runner.proofs.Opened.{known-run, opens, sound-world, starts}
 use Rattle.shm_runner.proofs.Texts.{threaded_text, marked_text}

@@ -1,7 +1,4 @@
-use Rattle.std.proofs.Common.{◌≡◌, ap, inl, map, length}
-use Rattle.shm_fault.specs.Store.{StoreView}
-use Rattle.shm_program.specs.Runs.{handed_in}
-use Rattle.shm_program.proofs.Causes.{stop_cause, stop_serial, stop_silent}
+use Rattle.shm_runner.proofs.Names.{◌≡◌, ap, inl, map, length, StoreView, handed_in, stop_cause, stop_serial, stop_silent}
 use Rattle.shm_runner.proofs.Causes.{serial_fails}
 use Rattle.shm_runner.proofs.threaded.run_script.Goals as goal
 

@@ -1,10 +1,4 @@
-use Rattle.std.proofs.Common.{inl, map, length}
-use Rattle.std.specs.Prelude.{false}
-use Rattle.std.specs.Io.KnownBytes.{IsAtEnd}
-use Rattle.shm_runner.specs.Threaded.{IsThreadedOutput}
-use Rattle.shm_program.specs.Runs.{handed_in}
-use Rattle.shm_program.proofs.Causes.{anyway, causes, read_silent}
-use Rattle.shm_program.proofs.Texts.{shows}
+use Rattle.shm_runner.proofs.Names.{inl, map, length, false, IsAtEnd, IsThreadedOutput, handed_in, anyway, causes, read_silent, shows}
 use Rattle.shm_runner.proofs.Causes.{serial_fails}
 use Rattle.shm_runner.proofs.Texts.{marked_shows}
 use Rattle.shm_runner.proofs.threaded.run_threaded.Goals as goal

@@ -1,5 +1,4 @@
-use Rattle.std.proofs.Common.{◌≡◌, ◌+◌, ◌++◌, drop, string_bytes}
-use Rattle.shm_print.specs.Text.{events_text}
+use Rattle.shm_runner.proofs.Names.{◌≡◌, ◌+◌, ◌++◌, drop, string_bytes, events_text}
 use Rattle.shm_runner.proofs.world.lines.Given as goal
 
 -- the lines so far, and then those of what is left

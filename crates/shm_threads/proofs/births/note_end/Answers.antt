@@ -1,5 +1,4 @@
-use Rattle.std.proofs.Common.{◌<◌, ◌∙◌, length, true, false, arith}
-use Rattle.shm_threads.specs.declared.births.ProcessState.{ProcessState}
+use Rattle.shm_threads.proofs.Names.{◌<◌, ◌∙◌, length, true, false, arith, ProcessState}
 use Rattle.shm_threads.proofs.Noting.{this_noted, other_noted}
 use Rattle.shm_threads.proofs.births.note_end.Goals as goal
 use Rattle.shm_threads.proofs.births.note_end.Goals.{then-process-pid, else-process-pid}

@@ -1,5 +1,4 @@
-use Rattle.std.proofs.Common.{◌≡◌, ◌++◌, map, take, drop}
-use Rattle.shm_threads.specs.Births.{with_end}
+use Rattle.shm_threads.proofs.Names.{◌≡◌, ◌++◌, map, take, drop, with_end}
 use Rattle.shm_threads.proofs.births.note_end.Given as goal
 
 abbrev pub invariant-loop-process : goal.invariant-loop-process

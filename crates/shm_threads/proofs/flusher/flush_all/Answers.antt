@@ -1,6 +1,5 @@
+use Rattle.shm_threads.proofs.Names.{◌≡◌, ◌∙◌, ◌+◌, ◌-◌, ◌∷◌, [], ℕ, true, false, sym, subst, arith, May, Adds, asks_of_rounds}
 use Prim.Native.Nat.{suc}
-use Rattle.std.proofs.Common.{◌≡◌, ◌∙◌, ◌+◌, ◌-◌, ◌∷◌, [], ℕ, true, false, sym, subst, arith}
-use Rattle.shm_threads.specs.Asked.{May, Adds, asks_of_rounds}
 use Rattle.shm_threads.proofs.Steps.{adds_none, round_asked}
 use Rattle.shm_threads.proofs.flusher.flush_all.Goals as goal
 

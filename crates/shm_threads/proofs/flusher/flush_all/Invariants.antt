@@ -1,5 +1,4 @@
-use Rattle.std.proofs.Common.{◌≡◌, ◌+◌, ◌-◌, ℕ}
-use Rattle.shm_threads.specs.Asked.{Adds, asks_of_rounds}
+use Rattle.shm_threads.proofs.Names.{◌≡◌, ◌+◌, ◌-◌, ℕ, Adds, asks_of_rounds}
 use Rattle.shm_threads.proofs.flusher.flush_all.Given as goal
 
 -- the rounds that are left make, with those that were made, the whole

@@ -1,5 +1,4 @@
-use Rattle.std.proofs.Common.{◌≡◌, ◌++◌, drop}
-use Rattle.shm_threads.specs.Asked.{rounds_of}
+use Rattle.shm_threads.proofs.Names.{◌≡◌, ◌++◌, drop, rounds_of}
 use Rattle.shm_threads.proofs.flusher.rounds.Given as goal
 
 -- the rounds so far, and then those of the lines that are left

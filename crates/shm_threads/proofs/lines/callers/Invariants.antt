@@ -1,5 +1,4 @@
-use Rattle.std.proofs.Common.{◌≡◌, ◌++◌, drop}
-use Rattle.shm_threads.specs.Transcripts.{callers_of}
+use Rattle.shm_threads.proofs.Names.{◌≡◌, ◌++◌, drop, callers_of}
 use Rattle.shm_threads.proofs.lines.callers.Given as goal
 
 -- the pids so far, and then those of the lines that are left

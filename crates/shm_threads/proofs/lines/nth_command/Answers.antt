@@ -1,7 +1,4 @@
-use Rattle.std.proofs.Common.{◌≡◌, ◌∙◌, ◌+◌, ◌++◌, ◌∷◌, [], List, ap, append_assoc, arith, drop, rules, sym}
-use Rattle.std.proofs.lemmas.List.{length_push}
-use Rattle.shm_text.specs.Form.{CommandView}
-use Rattle.shm_threads.specs.Transcripts.{commands_in, commands_of}
+use Rattle.shm_threads.proofs.Names.{◌≡◌, ◌∙◌, ◌+◌, ◌++◌, ◌∷◌, [], List, ap, append_assoc, arith, drop, rules, sym, length_push, CommandView, commands_in, commands_of}
 use Rattle.shm_threads.proofs.Remaining.{from-line}
 use Rattle.shm_threads.proofs.lines.nth_command.Goals as goal
 use Rattle.shm_threads.proofs.lines.nth_command.Goals.{in-Some+else-left-eq0, in_default}

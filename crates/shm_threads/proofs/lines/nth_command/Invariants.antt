@@ -1,6 +1,4 @@
-use Rattle.std.proofs.Common.{◌≡◌, ◌≤◌, ◌+◌, ◌++◌, List, length, drop}
-use Rattle.shm_text.specs.Form.{CommandView}
-use Rattle.shm_threads.specs.Transcripts.{commands_of}
+use Rattle.shm_threads.proofs.Names.{◌≡◌, ◌≤◌, ◌+◌, ◌++◌, List, length, drop, CommandView, commands_of}
 use Rattle.shm_threads.proofs.lines.nth_command.Given as goal
 
 -- the commands before it so far, and those of the lines that are left, among which it is

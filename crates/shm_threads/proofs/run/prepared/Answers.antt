@@ -1,4 +1,4 @@
-use Rattle.std.proofs.Common.{rules}
+use Rattle.shm_threads.proofs.Names.{rules}
 use Rattle.shm_threads.proofs.Starts.{running-prepared}
 use Rattle.shm_threads.proofs.run.prepared.Goals as goal
 

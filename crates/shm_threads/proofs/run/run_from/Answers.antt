@@ -1,8 +1,4 @@
-use Rattle.std.proofs.Common.{◌≡◌, ◌≤◌, None, ap, arith, length, refl, subst}
-use Rattle.shm_history.specs.WorldState.{WorldState}
-use Rattle.shm_text.specs.Script.{ScriptView}
-use Rattle.shm_threads.specs.Running.{IsOver}
-use Rattle.shm_threads.specs.Asked.{rounds_of}
+use Rattle.shm_threads.proofs.Names.{◌≡◌, ◌≤◌, None, ap, arith, length, refl, subst, WorldState, ScriptView, IsOver, rounds_of}
 use Rattle.shm_threads.proofs.Kept.{kept-all}
 use Rattle.shm_threads.proofs.Over.{outcome-of}
 use Rattle.shm_threads.proofs.Passing.{passed-all}

@@ -1,7 +1,4 @@
-use Rattle.std.proofs.Common.{rules, ◌≡◌, ◌<◌, ◌↔◌, ◌∙◌, Bool, true, false, IsTrue, IsFalse, Some, ap, length, inl, inr, refl, subst, ◌⊎◌}
-use Rattle.shm_history.specs.Gauges.{Seat, StartsWith, has_gauge, reading_of, stores}
-use Rattle.shm_history.specs.WorldState.{WorldState, tally_of}
-use Rattle.shm_threads.specs.Keepers.{IsCaughtUp, stored_of}
+use Rattle.shm_threads.proofs.Names.{rules, ◌≡◌, ◌<◌, ◌↔◌, ◌∙◌, Bool, true, false, IsTrue, IsFalse, Some, ap, length, inl, inr, refl, subst, ◌⊎◌, Seat, StartsWith, has_gauge, reading_of, stores, WorldState, tally_of, IsCaughtUp, stored_of}
 use Rattle.shm_threads.proofs.Keeping.{published-cell, published-more, starts-trans}
 use Rattle.shm_threads.proofs.run.run_threads_gauged.Goals as goal
 

@@ -1,10 +1,4 @@
-use Rattle.std.specs.Prelude.{Bool, All, IfOk}
-use Rattle.std.proofs.Common.{subst, sym}
-use Rattle.std.proofs.lemmas.Result.{IfErr-weaker, IfOk-weaker}
-use Rattle.shm_threads.specs.Ends.{CanEnd, CanStop}
-use Rattle.shm_threads.specs.Outcomes.{IsOutcome}
-use Rattle.shm_threads.specs.Strands.{IsKeptAs}
-use Rattle.shm_threads.specs.Transcripts.{HasEntries}
+use Rattle.shm_threads.proofs.Names.{Bool, All, IfOk, subst, sym, IfErr-weaker, IfOk-weaker, CanEnd, CanStop, IsOutcome, IsKeptAs, HasEntries}
 use Rattle.shm_threads.proofs.Least.{stop-end}
 use Rattle.shm_threads.proofs.Over.{outcome-passed}
 use Rattle.shm_threads.proofs.run.run_with.Goals as goal

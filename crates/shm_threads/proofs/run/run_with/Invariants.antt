@@ -1,4 +1,4 @@
-use Rattle.shm_threads.specs.Keepers.{cell_of, stored_of}
+use Rattle.shm_threads.proofs.Names.{cell_of, stored_of}
 use Rattle.shm_threads.proofs.run.run_with.Given as goal
 
 -- the run began with this script, and with the world and the keeper that were passed in

@@ -1,4 +1,4 @@
-use Rattle.std.proofs.Common.{◌≤◌, length, vec_len, vec_capacity}
+use Rattle.shm_threads.proofs.Names.{◌≤◌, length, vec_len, vec_capacity}
 use Rattle.shm_threads.proofs.run.start_all.Given as goal
 
 -- the list has room for each worker that may still start

@@ -1,6 +1,4 @@
-use Rattle.std.proofs.Common.{◌≡◌, ◌∙◌, Some, ap, rules, subst, sym}
-use Rattle.shm_history.specs.Gauges.{StartsWith}
-use Rattle.shm_threads.specs.Keepers.{cell_of, stored_of}
+use Rattle.shm_threads.proofs.Names.{◌≡◌, ◌∙◌, Some, ap, rules, subst, sym, StartsWith, cell_of, stored_of}
 use Rattle.shm_threads.proofs.Keeping.{published-cell, published-more}
 use Rattle.shm_threads.proofs.shared.publish.Goals as goal
 

@@ -1,6 +1,4 @@
-use Rattle.std.proofs.Common.{◌≡◌, ◌+◌, ◌++◌, ◌≤◌, map, vec_len, vec_capacity}
-use Rattle.std.specs.Vec.Iter.{into_iter_items, into_iter_len}
-use Rattle.shm_threads.specs.Strands.{transcript_of}
+use Rattle.shm_threads.proofs.Names.{◌≡◌, ◌+◌, ◌++◌, ◌≤◌, map, vec_len, vec_capacity, into_iter_items, into_iter_len, transcript_of}
 use Rattle.shm_threads.proofs.shared.transcripts_of.Given as goal
 
 -- those so far, and those of the strands that are left, for which there is room

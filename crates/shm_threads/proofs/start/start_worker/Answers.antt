@@ -1,5 +1,4 @@
-use denote.Param.Send.{sendable}
-use Rattle.std.proofs.Crossing.{crosses}
+use Rattle.shm_threads.proofs.Names.{sendable, crosses}
 use Rattle.shm_threads.proofs.Sent.{line_sync, shared_sync}
 use Rattle.shm_threads.proofs.start.start_worker.Goals as goal
 

@@ -1,6 +1,4 @@
-use Rattle.std.proofs.Common.{◌≡◌, All, map, take}
-use Rattle.shm_threads.specs.Strands.{IsFresh, IsKeptAs, pid_of_strand}
-use Rattle.shm_threads.specs.Transcripts.{pid_in}
+use Rattle.shm_threads.proofs.Names.{◌≡◌, All, map, take, IsFresh, IsKeptAs, pid_of_strand, pid_in}
 use Rattle.shm_threads.proofs.strand.strands.Given as goal
 
 -- one for each of the first processes

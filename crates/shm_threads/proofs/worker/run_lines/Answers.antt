@@ -1,8 +1,4 @@
-use Rattle.std.proofs.Common.{◌≡◌, ◌∙◌, ◌+◌, ◌++◌, ◌∷◌, [], ℕ, Bool, true, false, List, ap, append_assoc, arith, drop, length, refl, rules, subst, sym}
-use Rattle.std.proofs.lemmas.List.{drop_all, length_push}
-use Rattle.shm_text.specs.Form.{CommandView}
-use Rattle.shm_threads.specs.Asked.{Asked, Before, Stepped, Adds, GoTo, RunsLines, asks_of}
-use Rattle.shm_threads.specs.Transcripts.{commands_of}
+use Rattle.shm_threads.proofs.Names.{◌≡◌, ◌∙◌, ◌+◌, ◌++◌, ◌∷◌, [], ℕ, Bool, true, false, List, ap, append_assoc, arith, drop, length, refl, rules, subst, sym, drop_all, length_push, CommandView, Asked, Before, Stepped, Adds, GoTo, RunsLines, asks_of, commands_of}
 use Rattle.shm_threads.proofs.Remaining.{from-line}
 use Rattle.shm_threads.proofs.Steps.{adds_none, last_asked, line_asked}
 use Rattle.shm_threads.proofs.worker.run_lines.Goals as goal

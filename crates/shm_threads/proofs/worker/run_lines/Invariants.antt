@@ -1,7 +1,4 @@
-use Rattle.std.proofs.Common.{◌≡◌, ◌≤◌, ◌+◌, ◌++◌, Bool, List, length, drop}
-use Rattle.shm_text.specs.Form.{CommandView}
-use Rattle.shm_threads.specs.Asked.{Adds, GoTo, RunsLines, asks_of}
-use Rattle.shm_threads.specs.Transcripts.{commands_of}
+use Rattle.shm_threads.proofs.Names.{◌≡◌, ◌≤◌, ◌+◌, ◌++◌, Bool, List, length, drop, CommandView, Adds, GoTo, RunsLines, asks_of, commands_of}
 use Rattle.shm_threads.proofs.worker.run_lines.Given as goal
 
 -- the commands so far and those of the lines that are left are all, and what is asked for these makes, with what was asked, the whole

@@ -1,7 +1,4 @@
-use Rattle.std.proofs.Common.{◌≡◌, ◌<◌, ℕ, [], slice_index_or}
-use Rattle.shm_base.specs.declared.call.Process.{Process}
-use Rattle.shm_schedules.specs.Schedules.{replies_to}
-use Rattle.shm_judge.specs.Logs.{Fills}
+use Rattle.shm_judge.proofs.Names.{◌≡◌, ◌<◌, ℕ, [], slice_index_or, Process, replies_to, Fills}
 use Rattle.shm_judge.proofs.log.Log.is_filled.Given as goal
 
 abbrev pub invariant-loop-place : goal.invariant-loop-place

@@ -1,8 +1,4 @@
-use Rattle.std.proofs.Common.{◌≡◌, ◌∙◌, Contains, IsTrue, List, ap, sym, subst}
-use Rattle.std.specs.Map.{keys_of}
-use Rattle.shm_base.specs.declared.call.Reply.{Reply}
-use Rattle.shm_schedules.specs.Same.{outcome_eq, same-outcomes}
-use Rattle.shm_outcomes.specs.Search.{outcomes_in}
+use Rattle.shm_outcomes.proofs.Names.{◌≡◌, ◌∙◌, Contains, IsTrue, List, ap, sym, subst, keys_of, Reply, outcome_eq, same-outcomes, outcomes_in}
 use Rattle.shm_outcomes.proofs.Placing.{is-there, outcomes-found}
 use Rattle.shm_outcomes.proofs.findings.Findings.has.Goals as goal
 

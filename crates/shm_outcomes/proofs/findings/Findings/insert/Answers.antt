@@ -1,10 +1,4 @@
-use Rattle.std.proofs.Common.{rules, ◌≡◌, ◌∙◌, ◌++◌, ◌∷◌, [], inr, ap, map, Contains, List, subst, sym}
-use Rattle.std.specs.Map.{keys_of}
-use Rattle.std.proofs.lemmas.List.{map-append}
-use Rattle.shm_base.specs.declared.call.Reply.{Reply}
-use Rattle.shm_schedules.specs.Finding.{Finding}
-use Rattle.shm_schedules.specs.Same.{outcome_eq, same-outcomes}
-use Rattle.shm_outcomes.specs.Search.{outcomes_in}
+use Rattle.shm_outcomes.proofs.Names.{rules, ◌≡◌, ◌∙◌, ◌++◌, ◌∷◌, [], inr, ap, map, Contains, List, subst, sym, keys_of, map-append, Reply, Finding, outcome_eq, same-outcomes, outcomes_in}
 use Rattle.shm_outcomes.proofs.Placing.{found_as, goes-last, not-found, outcomes-found}
 use Rattle.shm_outcomes.proofs.findings.Findings.insert.Goals as goal
 

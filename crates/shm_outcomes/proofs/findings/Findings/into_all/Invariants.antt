@@ -1,4 +1,4 @@
-use Rattle.std.proofs.Common.{◌≡◌, ◌++◌, map}
+use Rattle.shm_outcomes.proofs.Names.{◌≡◌, ◌++◌, map}
 use Rattle.shm_outcomes.proofs.Placing.{found_as}
 use Rattle.shm_outcomes.proofs.findings.Findings.into_all.Given as goal
 

@@ -1,6 +1,4 @@
-use Rattle.std.proofs.Common.{rules, ◌≡◌, ◌∙◌, ◌+◌, ◌++◌, ◌∷◌, [], inr, ap, map, Contains, List, subst, sym}
-use Rattle.std.specs.Map.{keys_of}
-use Rattle.shm_outcomes.specs.Frontier.{State, Frontier, states_in, path, path_in}
+use Rattle.shm_outcomes.proofs.Names.{rules, ◌≡◌, ◌∙◌, ◌+◌, ◌++◌, ◌∷◌, [], inr, ap, map, Contains, List, subst, sym, keys_of, State, Frontier, states_in, path, path_in}
 use Rattle.shm_outcomes.proofs.Adding.{states-paths, paths-push}
 use Rattle.shm_outcomes.proofs.Placing.{goes-last, not-found}
 use Rattle.shm_outcomes.proofs.Same.{state_eq, equal-states}

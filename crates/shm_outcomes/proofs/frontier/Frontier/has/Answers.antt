@@ -1,6 +1,4 @@
-use Rattle.std.proofs.Common.{◌≡◌, ◌∙◌, Contains, IsTrue, List, ap, sym, subst}
-use Rattle.std.specs.Map.{keys_of}
-use Rattle.shm_outcomes.specs.Frontier.{State, Frontier, states_in}
+use Rattle.shm_outcomes.proofs.Names.{◌≡◌, ◌∙◌, Contains, IsTrue, List, ap, sym, subst, keys_of, State, Frontier, states_in}
 use Rattle.shm_outcomes.proofs.Adding.{states-paths}
 use Rattle.shm_outcomes.proofs.Placing.{is-there}
 use Rattle.shm_outcomes.proofs.Same.{state_eq, equal-states}

@@ -1,8 +1,4 @@
-use Rattle.std.proofs.Common.{rules, arith, ◌≡◌, ◌<◌, ◌∙◌, length, sym, ap, subst, List, ℕ}
-use Rattle.std.specs.Prelude.{slice_index_or}
-use Rattle.std.specs.Map.{values_of}
-use Rattle.std.proofs.lemmas.List.{length-map}
-use Rattle.shm_outcomes.specs.Frontier.{Frontier, path_in}
+use Rattle.shm_outcomes.proofs.Names.{rules, arith, ◌≡◌, ◌<◌, ◌∙◌, length, sym, ap, subst, List, ℕ, slice_index_or, values_of, length-map, Frontier, path_in}
 use Rattle.shm_outcomes.proofs.Adding.{schedule-at}
 use Rattle.shm_outcomes.proofs.frontier.Frontier.schedule.Goals as goal
 

@@ -1,8 +1,4 @@
-use Rattle.std.proofs.Common.{rules, arith, ◌≡◌, ◌<◌, ◌∙◌, length, sym, ap, subst, List}
-use Rattle.std.specs.Prelude.{slice_index_or}
-use Rattle.std.specs.Map.{keys_of}
-use Rattle.std.proofs.lemmas.List.{length-map}
-use Rattle.shm_outcomes.specs.Frontier.{State, Frontier, path_in}
+use Rattle.shm_outcomes.proofs.Names.{rules, arith, ◌≡◌, ◌<◌, ◌∙◌, length, sym, ap, subst, List, slice_index_or, keys_of, length-map, State, Frontier, path_in}
 use Rattle.shm_outcomes.proofs.Adding.{state-at}
 use Rattle.shm_outcomes.proofs.frontier.Frontier.state.Goals as goal
 

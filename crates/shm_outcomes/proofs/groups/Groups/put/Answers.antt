@@ -1,11 +1,4 @@
-use Rattle.std.proofs.Common.{rules, ◌≡◌, ◌∙◌, ◌++◌, ◌∷◌, [], Some, Contains, false, inl, inr, ap, length, refl, subst, sym, true≢false}
-use Rattle.std.specs.Prelude.{is_some}
-use Rattle.std.specs.Map.{keys_of, values_of}
-use Rattle.std.proofs.lemmas.List.{map-append}
-use Rattle.std.proofs.lemmas.Map.Entries.{length-keys_of}
-use Rattle.indexmap.specs.IndexMap.{get, index_of}
-use Rattle.shm_outcomes.specs.Groups.{Groups, IsAt, group_key_at}
-use Rattle.shm_outcomes.specs.Keys.{Key}
+use Rattle.shm_outcomes.proofs.Names.{rules, ◌≡◌, ◌∙◌, ◌++◌, ◌∷◌, [], Some, Contains, false, inl, inr, ap, length, refl, subst, sym, true≢false, is_some, keys_of, values_of, map-append, length-keys_of, get, index_of, Groups, IsAt, group_key_at, Key}
 use Rattle.shm_outcomes.proofs.Grouping.{at-last}
 use Rattle.shm_outcomes.proofs.Placing.{goes-last, is-at, is-there}
 use Rattle.shm_outcomes.proofs.Same.{key_eq, same-key}

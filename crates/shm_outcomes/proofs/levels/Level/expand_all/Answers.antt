@@ -1,5 +1,4 @@
-use Rattle.std.proofs.Common.{rules, ◌≡◌, ap}
-use Rattle.shm_outcomes.specs.Levels.{Level}
+use Rattle.shm_outcomes.proofs.Names.{rules, ◌≡◌, ap, Level}
 use Rattle.shm_outcomes.proofs.Adding.{state-by, stopped-at, expanded-at}
 use Rattle.shm_outcomes.proofs.levels.Level.expand_all.Goals as goal
 

@@ -1,5 +1,4 @@
-use Rattle.std.proofs.Common.{take}
-use Rattle.shm_outcomes.specs.Frontier.{AreExpanded, empty_frontier}
+use Rattle.shm_outcomes.proofs.Names.{take, AreExpanded, empty_frontier}
 use Rattle.shm_outcomes.proofs.levels.Level.expand_all.Given as goal
 
 abbrev pub invariant-loop-index : goal.invariant-loop-index

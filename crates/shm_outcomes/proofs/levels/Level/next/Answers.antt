@@ -1,5 +1,4 @@
-use Rattle.std.proofs.Common.{rules, ◌≡◌, ◌<◌, ◌∙◌, ap, length, subst, sym, ℕ}
-use Rattle.shm_outcomes.specs.Groups.{AreAllTransitions, ArePut, Groups, no_groups}
+use Rattle.shm_outcomes.proofs.Names.{rules, ◌≡◌, ◌<◌, ◌∙◌, ap, length, subst, sym, ℕ, AreAllTransitions, ArePut, Groups, no_groups}
 use Rattle.shm_outcomes.proofs.Adding.{level-full}
 use Rattle.shm_outcomes.proofs.levels.Level.next.Goals as goal
 

@@ -1,11 +1,4 @@
-use Rattle.std.proofs.Common.{rules, ◌≡◌, ◌∙◌, ◌++◌, ◌∷◌, [], List, ℕ, ap, get_or, length}
-use Rattle.std.proofs.Math.Seq.{get_or-append_seam}
-use Rattle.shm_base.specs.State.{Machine}
-use Rattle.shm_base.specs.declared.call.Event.{Event}
-use Rattle.shm_outcomes.specs.Nodes.{Node, event_after}
-use Rattle.shm_outcomes.specs.Changes.{effects_after}
-use Rattle.shm_schedules.specs.Outcomes.{replies_after}
-use Rattle.shm_schedules.specs.Schedules.{Run, after}
+use Rattle.shm_outcomes.proofs.Names.{rules, ◌≡◌, ◌∙◌, ◌++◌, ◌∷◌, [], List, ℕ, ap, get_or, length, get_or-append_seam, Machine, Event, Node, event_after, effects_after, replies_after, Run, after}
 use Rattle.shm_outcomes.proofs.Replaying.{late-effects}
 use Rattle.shm_outcomes.proofs.nodes.Node.after.Goals as goal
 

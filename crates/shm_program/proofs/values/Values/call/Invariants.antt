@@ -1,5 +1,4 @@
-use Rattle.std.proofs.Common.{◌≡◌, drop}
-use Rattle.shm_program.specs.Values.{values_of}
+use Rattle.shm_program.proofs.Names.{◌≡◌, drop, values_of}
 use Rattle.shm_program.proofs.values.Values.call.Given as goal
 
 -- the process is among the holders that are left, if anywhere

@@ -1,5 +1,4 @@
-use Rattle.std.proofs.Common.{◌≡◌, map, take}
-use Rattle.shm_program.specs.Values.{fresh_holder}
+use Rattle.shm_program.proofs.Names.{◌≡◌, map, take, fresh_holder}
 use Rattle.shm_program.proofs.values.Values.new.Given as goal
 
 abbrev pub invariant-loop-process : goal.invariant-loop-process

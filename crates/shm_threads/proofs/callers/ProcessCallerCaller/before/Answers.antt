@@ -1,4 +1,4 @@
-use Rattle.std.proofs.Common.{inr}
+use Rattle.shm_threads.proofs.Names.{inr}
 use Rattle.shm_threads.proofs.Placing.{declared-at}
 use Rattle.shm_threads.proofs.callers.ProcessCallerCaller.before.Goals as goal
 

@@ -1,8 +1,4 @@
-use Rattle.std.proofs.Common.{◌≡◌, ◌≤◌, ◌∙◌, ℕ, List, None, ap, arith, false, inr, length, position, subst, sym, true≢false}
-use Rattle.std.specs.Prelude.{IfErr, OnOk, Result}
-use Rattle.shm_threads.specs.Ends.{CanStop, comes_before, ended_by}
-use Rattle.shm_threads.specs.Running.{IsOver, RunView, can_come}
-use Rattle.shm_threads.specs.declared.outcome.RunError.{RunError}
+use Rattle.shm_threads.proofs.Names.{◌≡◌, ◌≤◌, ◌∙◌, ℕ, List, None, ap, arith, false, inr, length, position, subst, sym, true≢false, IfErr, OnOk, Result, CanStop, comes_before, ended_by, IsOver, RunView, can_come, RunError}
 use Rattle.shm_threads.proofs.Expiring.{ended-over, ended-stop}
 use Rattle.shm_threads.proofs.Idle.{no-first}
 use Rattle.shm_threads.proofs.Placing.{declared-at}

@@ -1,4 +1,4 @@
-use Rattle.shm_threads.specs.Ends.{IsEnded}
+use Rattle.shm_threads.proofs.Names.{IsEnded}
 use Rattle.shm_threads.proofs.Least.{least-kept}
 use Rattle.shm_threads.proofs.shared.RunState.expire.Goals as goal
 

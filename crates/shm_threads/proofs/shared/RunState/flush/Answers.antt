@@ -1,6 +1,4 @@
-use Rattle.std.proofs.Common.{◌≡◌, ◌∙◌, ℕ, List, Some, ap, refl, rules, subst, sym}
-use Rattle.std.specs.Prelude.{length, slice_get}
-use Rattle.std.proofs.lemmas.Option.{slice_get_read}
+use Rattle.shm_threads.proofs.Names.{◌≡◌, ◌∙◌, ℕ, List, Some, ap, refl, rules, subst, sym, length, slice_get, slice_get_read}
 use Rattle.shm_threads.proofs.Keeping.{kept-trans}
 use Rattle.shm_threads.proofs.Passing.{passed-flush}
 use Rattle.shm_threads.proofs.Turns.{running-flush}

@@ -1,10 +1,4 @@
-use Rattle.std.proofs.Common.{◌≡◌, ◌∙◌, subst, sym}
-use Rattle.std.proofs.Math.ListN.{get_or}
-use Rattle.std.proofs.lemmas.Bool.{and_parts}
-use Rattle.std.proofs.lemmas.List.Quantifiers.{position-Some}
-use Rattle.shm_threads.specs.Ends.{comes_before}
-use Rattle.shm_threads.specs.Running.{RunView, can_come}
-use Rattle.shm_threads.specs.Strands.{can_go}
+use Rattle.shm_threads.proofs.Names.{◌≡◌, ◌∙◌, subst, sym, get_or, and_parts, position-Some, comes_before, RunView, can_come, can_go}
 use Rattle.shm_threads.proofs.Nexts.{at-process, within-lines}
 use Rattle.shm_threads.proofs.shared.RunState.next.Goals as goal
 

@@ -1,12 +1,4 @@
-use Rattle.std.proofs.Common.{◌∙◌, ◌≡◌, ◌<◌, ◌+◌, ℕ, List, Bool, true, length, arith, inr, ap, is_some, rules, slice_set, subst, sym}
-use Rattle.std.proofs.Math.ListN.{get_or}
-use Rattle.std.proofs.lemmas.Bool.{eqb-true}
-use Rattle.std.proofs.lemmas.List.{get_or_read}
-use Rattle.shm_base.specs.State.{Machine}
-use Rattle.shm_threads.specs.Running.{IsTurn, RunView, goes_on_by, is_next}
-use Rattle.shm_threads.specs.Strands.{can_go}
-use Rattle.shm_threads.specs.declared.births.ProcessState.{ProcessState}
-use Rattle.shm_threads.specs.declared.strand.Strand.{Strand}
+use Rattle.shm_threads.proofs.Names.{◌∙◌, ◌≡◌, ◌<◌, ◌+◌, ℕ, List, Bool, true, length, arith, inr, ap, is_some, rules, slice_set, subst, sym, get_or, eqb-true, get_or_read, Machine, IsTurn, RunView, goes_on_by, is_next, can_go, ProcessState, Strand}
 use Rattle.shm_threads.proofs.Kept.{kept-set}
 use Rattle.shm_threads.proofs.Passing.{passed-step}
 use Rattle.shm_threads.proofs.Turns.{has-place, nth-next, pid-of, running-step}

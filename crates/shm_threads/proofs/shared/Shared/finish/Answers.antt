@@ -1,6 +1,5 @@
 use Rattle.shm_threads.proofs.Least.{joined, refused-ends}
-use Rattle.std.proofs.Common.{is_some}
-use Rattle.std.proofs.lemmas.Result.{err_from_is_err_and}
+use Rattle.shm_threads.proofs.Names.{is_some, err_from_is_err_and}
 use Rattle.shm_threads.proofs.shared.Shared.finish.Goals as goal
 
 pub returns-in_err-complete-clause-refused : goal.returns-in_err-complete-clause-refused

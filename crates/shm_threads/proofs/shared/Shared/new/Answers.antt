@@ -1,4 +1,4 @@
-use Rattle.shm_threads.specs.Transcripts.{callers_of}
+use Rattle.shm_threads.proofs.Names.{callers_of}
 use Rattle.shm_threads.proofs.Passing.{passed-fresh}
 use Rattle.shm_threads.proofs.shared.Shared.new.Goals as goal
 

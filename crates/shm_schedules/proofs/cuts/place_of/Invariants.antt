@@ -1,6 +1,6 @@
 use Rattle.std.proofs.Common.{◌≡◌, ◌≤◌, ◌-◌, ◌++◌, length, drop, take}
-use Rattle.shm_judge.specs.Reading.{past, until}
-use Rattle.shm_judge.proofs.reading.place_of.Given as goal
+use Rattle.shm_schedules.specs.Cuts.{past, until}
+use Rattle.shm_schedules.proofs.cuts.place_of.Given as goal
 
 abbrev pub invariant-loop-place : goal.invariant-loop-place
 invariant-loop-place l = record {

@@ -1,5 +1,11 @@
--- The parts of a word.
-use Rattle.std.specs.Prelude.{ℕ, ◌==◌, if◌then◌else◌, List, [], ◌∷◌}
+-- The parts of a word or a line.
+use Rattle.std.specs.Prelude.{ℕ, ◌==◌, Bool, false, if◌then◌else◌, List, [], ◌∷◌}
+
+-- a single question mark
+abbrev pub is_any : List ℕ → Bool
+is_any [] = false
+is_any (c ∷ []) = c == 63
+is_any (c ∷ d ∷ cs) = false
 
 -- the bytes before the first such byte, and those after it
 abbrev pub until : ℕ → List ℕ → List ℕ
