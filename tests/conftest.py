@@ -116,13 +116,13 @@ def proved_shmview() -> str:
 
 @pytest.fixture(scope="session")
 def proved_runner() -> str:
-    """The proved program of the crate of tests of whole runs."""
-    return built("shm_runner_tests", may_be_unproved=False)
+    """The proved program for tests that need a process of their own."""
+    return built("shm_process_tests", may_be_unproved=False)
 
 
 @pytest.fixture(scope="session")
 def runner() -> str:
-    return built("shm_runner_tests")
+    return built("shm_process_tests")
 
 
 @pytest.fixture

@@ -8,7 +8,7 @@ run is as if the call were not there. A sweep continues until a run makes no req
 If a thread is refused, the run ends and prints nothing, requests no more threads, and no worker waits for a
 process without a thread.
 
-A world is swept with a twin (crates/shm_runner_tests/src/twins.rt): both make the same calls. If memory is
+A world is swept with a twin (crates/shm_process_tests/src/twins.rt): both make the same calls. If memory is
 refused to one of them at its start, its reserve or a call, it has the history, the tally and the state of the
 other one, which always had memory. So it has afterwards, whether the refused call is made again or left out.
 """

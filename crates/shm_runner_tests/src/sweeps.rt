@@ -142,7 +142,7 @@ fn ran<R: Threads + Wait + Sync, P: Pager + Send>(
     Ok(world)
 }
 
-#[tactic(auto, using(crate::proofs::Opened::is_opened))]
+#[tactic(auto, using(shm_runner::proofs::Opened::opens))]
 pub(crate) fn opened<P: Pager>(
     alloc: Global,
     script: &Script,

@@ -71,7 +71,7 @@ impl<T: Drop> From<AllocFailed<T>> for NoRun {
     }
 }
 
-#[tactic(auto, using(crate::proofs::Opened::is_opened))]
+#[tactic(auto, using(shm_runner::proofs::Opened::opens))]
 fn start(alloc: Global, script: &Script) -> Result<World<SparsePager>, NoRun>
     ensures { IfOk result (IsOpened script.now) }
 {

@@ -1,5 +1,4 @@
-//! Tests of whole runs: readers, writers and pagers that fail, in file order and with threads. The program is
-//! for tests that need a process of their own, and runs the script on standard input.
+//! A program for tests that need a process of their own. It runs the script on standard input.
 //!
 //! - `asks SWAP...` prints how often each area's pager was called.
 //! - `twins SWAP...` prints the result of two worlds that make the same calls. `-with-room` reserves room in
@@ -7,19 +6,9 @@
 //! - `monitor [gauged|plain]` runs with threads, while a monitor reads the gauge.
 #![tactic(auto)]
 
-#[cfg(test)]
-mod ends;
-#[cfg(test)]
-mod flat;
 mod monitor;
 mod pager_calls;
-#[cfg(test)]
-mod rows;
 mod stop;
-#[cfg(test)]
-mod sweeps;
-#[cfg(test)]
-mod threaded;
 mod twins;
 
 use monitor::monitor;
@@ -96,7 +85,7 @@ fn main(rt: HostRuntime) -> io::Result<ExitCode> {
     match run(&rt) {
         Ok(()) => Ok(ExitCode::SUCCESS),
         Err(stop) => {
-            eprintln!(rt; "shm_runner_tests: {stop}")?;
+            eprintln!(rt; "shm_process_tests: {stop}")?;
             Ok(ExitCode::from(stop.status()))
         }
     }

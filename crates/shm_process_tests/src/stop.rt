@@ -27,7 +27,7 @@ pub(crate) enum Part {
 /// with threads that gave nothing to read.
 #[derive(Clone, Copy, Debug, PartialEq, Eq, Error)]
 pub(crate) enum Stop {
-    #[error("usage: shm_runner_tests asks|twins[-with-room|-without-it] SWAP... | monitor [gauged|plain]")]
+    #[error("usage: shm_process_tests asks|twins[-with-room|-without-it] SWAP... | monitor [gauged|plain]")]
     Words,
     #[error("the script does not run")]
     Run,
