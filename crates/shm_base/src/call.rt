@@ -7,6 +7,7 @@ use crate::bounds::INDEXES;
 use crate::errno::Errno;
 use crate::flags::{AtFlags, GetFlags, Status};
 use crate::owner::{Cred, Perm};
+use std::alloc::AllocError;
 
 /// An identifier of a segment, as shmget(2) returns it. No segment has a negative one.
 pub type ShmId = i32;
@@ -42,7 +43,7 @@ pub fn has_pid(processes: &[Process], pid: u32) -> bool
 /// one step. A compare and exchange stores the desired bytes only if the bytes there are the expected ones.
 /// Only the low nine bits of a mode count. A line of a script has other identifiers and addresses, which may
 /// be variables.
-#[derive(Clone, Copy, Debug, PartialEq, Eq)]
+#[derive(Copy, Debug, PartialEq, Eq)]
 pub enum Call<I = ShmId, A = u64> {
     Shmget {
         key: u32,
@@ -119,6 +120,14 @@ pub enum Call<I = ShmId, A = u64> {
         uid: u32,
         gid: u32,
     },
+}
+
+impl<I: Copy, A: Copy> Clone for Call<I, A> {
+    ghost is_clone = { λ call copy. copy ≡ call };
+
+    fn clone(&self) -> Result<Call<I, A>, AllocError> {
+        Ok(*self)
+    }
 }
 
 /// Where shmat attaches a segment: its identifier, its number of pages, and the address of its first page.
