@@ -7,7 +7,7 @@ import shutil
 import subprocess
 import sys
 
-from crates import TOP, all_below, graph
+from crates import TOP, all_below, graph, lanes
 
 
 class NoProver(Exception):
@@ -50,7 +50,7 @@ def words_for(crate: str, folder: str) -> list[str]:
 
 def is_proved(crate: str, folder: str, words: list[str], to: str) -> bool:
     """Proves a crate from nothing; the file TO gets what the compilers need."""
-    jobs = str(min(2, len(os.sched_getaffinity(0))))
+    jobs = str(lanes())
     return rattle(crate, folder, "check", *words, "--logic-built", f"{kit()}/logic_built", "--jobs", jobs, "-o", to)
 
 
