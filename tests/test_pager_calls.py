@@ -26,7 +26,7 @@ import pytest
 from asked import replay
 from commands import TOP, run, text_of
 
-READ, WRITE, PAGERS = "Swap::read_slot", "Swap::write_slot", "shm_pager::"
+READ, WRITE, PAGERS = "Swap::read_slot", "Swap::write_slot", "shm_pager"
 COPY, CLEAR = re.compile(r"mem(cpy|move)"), re.compile(r"memset")
 # a swapoff moves pages by a function of its own
 MOVES = re.compile(r"^\d+ swapoff\b", re.MULTILINE)

@@ -21,11 +21,13 @@ def test_crates_are_taken(folder: str) -> None:
     """A crate comes with all crates below it, without builds and edits; crates that are there stay."""
     write_file(folder, "crates.txt", "own: shm_pager\n")
     os.makedirs(f"{folder}/crates/own/src")
-    assert take(folder, "shm_pager") == (0, f"{folder}/crates has 2 more crates: shm_base shm_pager\n", "")
-    assert sorted(os.listdir(f"{folder}/crates")) == ["own", "shm_base", "shm_pager"]
+    said = f"{folder}/crates has 3 more crates: shm_base shm_pager_core shm_pager\n"
+    assert take(folder, "shm_pager") == (0, said, "")
+    assert sorted(os.listdir(f"{folder}/crates")) == ["own", "shm_base", "shm_pager", "shm_pager_core"]
     assert sorted(os.listdir(f"{folder}/crates/shm_pager")) == ["proofs", "specs", "src"]
     lines = text_of(f"{folder}/crates.txt")
-    assert lines == "own: shm_pager\nshm_base: bitflags thiserror\nshm_pager: shm_base thiserror\n"
+    assert lines == ("own: shm_pager\nshm_base: bitflags thiserror\nshm_pager_core: shm_base thiserror\n"
+                     "shm_pager: shm_base shm_pager_core thiserror\n")
     assert text_of(f"{folder}/HANDLES") == LINE
 
 

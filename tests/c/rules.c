@@ -1,5 +1,5 @@
 /* rules: each rule of Linux alone, and what the profile answers to the same calls. Then which numbers are rules, and the order of
-   the refusals of shmat where all rules hold. The calls are those of crates/shm_base/specs/RuleRows.antt. */
+   the refusals of shmat where all rules hold. The calls are those of crates/shm_rows/specs/RuleRows.antt. */
 #include "testing.h"
 
 enum { MODE = 0600 };

@@ -3,9 +3,9 @@ use Rattle.std.specs.Prelude.{ℕ, ◌≡◌, ◌⊎◌, not, ◌==◌, nat_lt, 
 use Rattle.shm_base.specs.Codes.{code_of}
 use Rattle.shm_base.specs.declared.errno.Errno.TheVariants.{Einval, Enoent}
 use Rattle.shm_base.specs.declared.paging.PageRef.{PageRef}
-use Rattle.shm_pager.specs.declared.failing.ComingFailure.{ComingFailure}
-use Rattle.shm_pager.specs.declared.failing.FailRefused.{FailRefused}
-use Rattle.shm_pager.specs.declared.failing.FailRefused.TheVariants as refusals
+use Rattle.shm_pager_core.specs.declared.failing.ComingFailure.{ComingFailure}
+use Rattle.shm_pager_core.specs.declared.failing.FailRefused.{FailRefused}
+use Rattle.shm_pager_core.specs.declared.failing.FailRefused.TheVariants as refusals
 use Rattle.shm_life.specs.Failing.{FailsPage, IsFailing}
 use Rattle.shm_life.specs.declared.failing.PageNotFailed.{PageNotFailed}
 use Rattle.shm_life.specs.declared.failing.PageNotFailed.TheVariants as pages

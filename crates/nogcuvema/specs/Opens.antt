@@ -12,8 +12,8 @@ use Rattle.shm_pager.specs.declared.area.AreaKind.TheVariants.{Ram, Sparse, Mirr
 use Rattle.shm_machine.specs.declared.machine.Machine.{Machine}
 use Rattle.shm_machine.specs.declared.opening.AreaConfig.{AreaConfig}
 use Rattle.shm_machine.specs.declared.opening.Failure.{Failure}
-use Rattle.shm_pager.specs.declared.failing.Side.{Side}
-use Rattle.shm_pager.specs.declared.failing.Side.TheVariants.{Left, Right}
+use Rattle.shm_pager_core.specs.declared.failing.Side.{Side}
+use Rattle.shm_pager_core.specs.declared.failing.Side.TheVariants.{Left, Right}
 use Rattle.shm_machine.specs.Opened.{IsOpened, sizes_of}
 use Rattle.nogcuvema.specs.declared.structs.NogLimits.{NogLimits}
 use Rattle.nogcuvema.specs.declared.structs.NogArea.{NogArea}

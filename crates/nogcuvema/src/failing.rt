@@ -12,7 +12,7 @@ use crate::structs::NogFailure;
 use shm_base::Errno;
 use shm_life::PageNotFailed;
 use shm_machine::Machine;
-use shm_pager::{ComingFailure, FailRefused};
+use shm_pager_core::{ComingFailure, FailRefused};
 use std::alloc::Global;
 
 fn fail_code(refusal: FailRefused) -> u32

@@ -14,7 +14,7 @@ use crate::spaces::Spaces;
 use shm_areas::Piece;
 use shm_base::{HostMemory, PAGE_SIZE};
 use shm_fault::PageStore;
-use shm_pager::Pager;
+use shm_pager_core::Pager;
 
 impl Spaces {
     /// Attaches all pages of a segment at a base, and replaces whatever its range has: pieces in the range

@@ -8,7 +8,7 @@ ghost use Rattle.shm_attach.specs.Table.{frame_in, TrueTable, with_frame};
 
 use shm_base::{FrameNo, HostMemory, PageRef};
 use shm_fault::PageStore;
-use shm_pager::Pager;
+use shm_pager_core::Pager;
 use shm_sparse::SparseVec;
 use std::alloc::{AllocError, Global};
 use std::marker::Model;

@@ -15,7 +15,7 @@ use crate::keys::Keys;
 use crate::table::Table;
 use shm_base::{FrameNo, HostMemory, PageRef};
 use shm_fault::{PageMove, PageStore};
-use shm_pager::Pager;
+use shm_pager_core::Pager;
 use slab::Slab;
 use std::alloc::{AllocError, Global};
 

@@ -14,7 +14,6 @@ mod memory;
 mod numbers;
 mod owner;
 mod paging;
-mod rows;
 
 pub use access::{AccessBytes, AccessLen, Chunk, Word};
 pub use bounds::{

@@ -16,8 +16,8 @@ pub use Rattle.shm_base.specs.declared.bounds.TheConstants.{INDEXES, MOST_FRAMES
 pub use Rattle.shm_base.specs.declared.paging.PageRef.{PageRef}
 pub use Rattle.shm_base.specs.declared.paging.Slot.{Slot}
 pub use Rattle.shm_base.specs.declared.paging.Span.{Span}
-pub use Rattle.shm_pager.specs.Pages.{PagerView, SideCalls, next_count, pager_seen}
-pub use Rattle.shm_pager.specs.declared.pager.PagerFault.{PagerFault}
+pub use Rattle.shm_pager_core.specs.Pages.{PagerView, SideCalls, next_count, pager_seen}
+pub use Rattle.shm_pager_core.specs.declared.pager.PagerFault.{PagerFault}
 pub use Rattle.shm_slots.proofs.Causes.{cause-before, failures-after, pages-same, size-at, spent-cause, unspent-before}
 pub use Rattle.shm_slots.proofs.Rows.{length-owners, owners-at, owners-fault, owners-kept, owners-page, owners-set, owners-without}
 pub use Rattle.shm_slots.proofs.Slots.{OnlySlot, OnlySlot-fault, OnlySlot-given, OnlySlot-owner, OnlySlot-page, cases_slot, owner-fault, owner-given, owner-set, owner-written, page-written}

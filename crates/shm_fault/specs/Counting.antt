@@ -1,6 +1,6 @@
 -- The counts of pages read in and written out.
 use Rattle.std.specs.Prelude.{ℕ, zero, suc, ◌≡◌, Bool, if◌then◌else◌}
-use Rattle.shm_pager.specs.Pages.{next_count}
+use Rattle.shm_pager_core.specs.Pages.{next_count}
 use Rattle.shm_fault.specs.declared.touched.Touched.{Touched}
 use Rattle.shm_fault.specs.Store.{StoreView}
 

@@ -1,8 +1,8 @@
 -- Reads of a page's slot are made to fail.
 use Rattle.std.specs.Prelude.{◌≡◌, ◌⊎◌, true, false, Option, Some, None, is_some, Result, MatchResult}
 use Rattle.shm_base.specs.declared.paging.Slot.{Slot}
-use Rattle.shm_pager.specs.declared.failing.FailRefused.{FailRefused}
-use Rattle.shm_pager.specs.declared.failing.FailRefused.TheVariants.{NotThere, HostMemory}
+use Rattle.shm_pager_core.specs.declared.failing.FailRefused.{FailRefused}
+use Rattle.shm_pager_core.specs.declared.failing.FailRefused.TheVariants.{NotThere, HostMemory}
 use Rattle.shm_slots.specs.Failing.{with_bad}
 use Rattle.shm_slots.specs.View.{SwapView, area_at, with_area}
 

@@ -24,7 +24,7 @@ use crate::store::PageStore;
 use crate::touched::{PagerFailed, Touched};
 use shm_base::{FrameNo, MOST_FRAMES, PAGE_SIZE, PageRef, Span};
 use shm_frames::Frames;
-use shm_pager::{Pager, PagerFault};
+use shm_pager_core::{Pager, PagerFault};
 
 /// The frames that the pages of one or two spans are in; the same frame twice for one span.
 #[derive(Clone, Copy)]

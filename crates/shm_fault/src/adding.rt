@@ -1,14 +1,14 @@
 //! Adds swap areas while the store is in use.
 ghost use Rattle.std.specs.Prelude.{◌≡◌, ◌<◌, length, OnErr, OnOk};
 ghost use Rattle.shm_base.specs.declared.bounds.TheConstants.{MOST_AREAS};
-ghost use Rattle.shm_pager.specs.Pages.{pager_seen};
+ghost use Rattle.shm_pager_core.specs.Pages.{pager_seen};
 ghost use Rattle.shm_slots.specs.View.{IsAreaSize, fresh, with_new};
 ghost use Rattle.shm_fault.specs.Sound.{IsStoreSound};
 ghost use Rattle.shm_fault.specs.Store.{held};
 
 use crate::store::PageStore;
 use shm_base::HostMemory;
-use shm_pager::Pager;
+use shm_pager_core::Pager;
 use std::alloc::Global;
 
 impl<P: Pager> PageStore<P> {

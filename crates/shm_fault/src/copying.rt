@@ -3,7 +3,7 @@ ghost use Rattle.std.specs.Prelude.{◌≡◌, IfOk};
 
 use crate::store::PageStore;
 use shm_base::HostMemory;
-use shm_pager::ClonePager;
+use shm_pager_core::ClonePager;
 
 impl<P: ClonePager> PageStore<P> {
     /// A copy of the store: the same bytes, each page in the same place, and pagers of its own that read and

@@ -11,7 +11,7 @@ use crate::page_tables::PageRec;
 use crate::store::PageStore;
 use shm_base::{FrameNo, PageRef, Slot};
 use shm_frames::Frames;
-use shm_pager::Pager;
+use shm_pager_core::Pager;
 use shm_slots::Swap;
 
 // Makes a page's frame free, if it has one.

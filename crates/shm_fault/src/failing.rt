@@ -9,7 +9,7 @@ ghost use Rattle.shm_fault.specs.Store.{held};
 
 use crate::store::PageStore;
 use shm_base::PageRef;
-use shm_pager::{ComingFailure, FailPager, FailRefused};
+use shm_pager_core::{ComingFailure, FailPager, FailRefused};
 
 impl<P: FailPager> PageStore<P> {
     /// Makes a call of an area to come fail, as [`Swap::fail`](shm_slots::Swap::fail) does. No byte changes, and

@@ -10,7 +10,7 @@ ghost use Rattle.shm_fault.specs.Flushing.{IsFlushed, WritesOne, may_flush};
 
 use crate::store::PageStore;
 use shm_base::{FlushReport, FrameNo};
-use shm_pager::Pager;
+use shm_pager_core::Pager;
 
 impl<P: Pager> PageStore<P> {
     // Whether the segment of a dirty frame's page is not locked.

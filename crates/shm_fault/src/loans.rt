@@ -17,7 +17,7 @@ use crate::store::PageStore;
 use shm_base::{FrameNo, PageRef, Span};
 use shm_clock::{frame_after, next_victim};
 use shm_frames::{Frames, Looks};
-use shm_pager::Pager;
+use shm_pager_core::Pager;
 
 /// What a frame shows of itself: its page, whether that is referenced, dirty, and on loan, and whether its
 /// segment is locked. A free frame has no page, and all else is false.

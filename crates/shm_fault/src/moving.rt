@@ -7,7 +7,7 @@ use crate::page_tables::PageRec;
 use crate::store::PageStore;
 use crate::touched::{PagerFailed, Touched};
 use shm_base::Slot;
-use shm_pager::{Pager, PagerFault};
+use shm_pager_core::{Pager, PagerFault};
 
 impl<P: Pager> PageStore<P> {
     // Makes a slot free, by moving its page: a resident page gives the slot back, and is dirty; any other

@@ -18,7 +18,7 @@ use crate::touched::{PageMove, Touched};
 use shm_base::{FrameNo, PageRef, Slot};
 use shm_clock::victim;
 use shm_frames::{Frames, Looks, Skips};
-use shm_pager::{Pager, PagerFault};
+use shm_pager_core::{Pager, PagerFault};
 use shm_slots::Swap;
 
 // A frame that its page left, and whether the page was written for that.

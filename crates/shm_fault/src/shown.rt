@@ -4,7 +4,7 @@ ghost use Rattle.std.specs.Prelude.{◌≡◌};
 use crate::store::PageStore;
 use shm_base::FrameNo;
 use shm_frames::Frames;
-use shm_pager::Pager;
+use shm_pager_core::Pager;
 use shm_slots::Swap;
 
 impl<P: Pager> PageStore<P> {

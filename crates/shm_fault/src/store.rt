@@ -13,7 +13,7 @@ use crate::page_tables::PageTables;
 use crate::touched::PageTally;
 use shm_base::{FrameNo, HostMemory, PageRef};
 use shm_frames::{Frames, Skips};
-use shm_pager::Pager;
+use shm_pager_core::Pager;
 use shm_slots::Swap;
 use std::alloc::Global;
 use std::marker::Model;

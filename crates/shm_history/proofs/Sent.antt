@@ -8,7 +8,7 @@ use Rattle.atomic_table.proofs.send_lease.SendLease.TheSendSync as lease
 use Rattle.shm_history.specs.contracts.gauges.Keeper as keeper
 use Rattle.shm_history.specs.contracts.world.World as world
 use Rattle.shm_life.proofs.Sent.{system_send}
-use Rattle.shm_pager.specs.declared.pager.Pager.{Ghosts}
+use Rattle.shm_pager_core.specs.declared.pager.Pager.{Ghosts}
 
 pub keeper_send : IsSend keeper.the_row
 keeper_send = search (sendable, crosses, cell.the_send, cell.the_sync, seat.the_send, lease.the_send, lease.the_sync) depth 200 fits 100000

@@ -8,7 +8,7 @@ use crate::cell::Reading;
 use crate::gauges::{Gauge, Keeper, ReaderSeat};
 use crate::world::World;
 use shm_base::{HostMemory, PROFILE_FRAMES, PROFILE_SHMALL};
-use shm_pager::Pager;
+use shm_pager_core::Pager;
 use std::alloc::Global;
 use std::sync::Wait;
 use thiserror::Error;

@@ -16,7 +16,7 @@ ghost use Rattle.shm_history.specs.WorldState.{tally_of, AreCounted, calls_of, s
 
 use shm_base::{Call, Event, FlushReport, HostMemory, Reply, ShmId, ShmidDs, Step, Tally};
 use shm_life::{Opening, System};
-use shm_pager::Pager;
+use shm_pager_core::Pager;
 use std::alloc::Global;
 use std::marker::Model;
 

@@ -8,7 +8,7 @@ use Rattle.shm_base.specs.declared.call.Event.{Event}
 use Rattle.shm_base.specs.Bounds.{profile}
 use Rattle.shm_base.specs.State.{Segment, Entry, Piece, Runner, Machine, Opening, start_of}
 use Rattle.shm_base.specs.History.{IsHistory, own_part}
-use Rattle.shm_base.specs.Rows.{Answers, does, id, mode, creat, rdonly, remap, shmget, shmat, stat, process, child}
+use Rattle.shm_rows.specs.Rows.{Answers, does, id, mode, creat, rdonly, remap, shmget, shmat, stat, process, child}
 use Rattle.shm_base.specs.Identifier.{Look, Found, Removed, Invalid, look}
 use Rattle.shm_base.specs.Access.{bytes_at}
 use Rattle.shm_base.specs.Segments.{attach_count}

@@ -3,7 +3,7 @@ ghost use Rattle.shm_laws.specs.Identity.{NamesOneSegment};
 
 use shm_base::Event;
 use shm_history::World;
-use shm_pager::Pager;
+use shm_pager_core::Pager;
 
 #[tactic(auto, using(crate::proofs::Keeping::names_one_segment))]
 /// The history of the world. An identifier names the same segment until that is destroyed, and then none. A new segment

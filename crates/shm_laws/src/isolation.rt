@@ -3,7 +3,7 @@ ghost use Rattle.shm_laws.specs.Isolation.{IsIsolated};
 
 use shm_base::Event;
 use shm_history::World;
-use shm_pager::Pager;
+use shm_pager_core::Pager;
 
 #[tactic(auto, using(crate::proofs::Isolating::is_isolated))]
 /// The history of the world. A process's replies never depend on the bytes of segments that it has not

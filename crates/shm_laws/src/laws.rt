@@ -6,7 +6,7 @@ ghost use Rattle.shm_laws.specs.Lawful.{IsLawful};
 
 use shm_base::Event;
 use shm_history::World;
-use shm_pager::Pager;
+use shm_pager_core::Pager;
 
 /// The history of the world. All laws hold for it, and so does all that `World::history` says.
 pub fn lawful<P: Pager>(world: &World<P>) -> &[Event]

@@ -3,7 +3,7 @@ ghost use Rattle.shm_laws.specs.Permission.{NoWayIn};
 
 use shm_base::Event;
 use shm_history::World;
-use shm_pager::Pager;
+use shm_pager_core::Pager;
 
 #[tactic(auto, using(crate::proofs::Keeping::no_way_in))]
 /// The history of the world. Each piece of a process descends, through forks only, from a shmat that had permission. Each

@@ -3,7 +3,7 @@ ghost use Rattle.shm_laws.specs.Pieces.{PiecesAreOfSegments};
 
 use shm_base::Event;
 use shm_history::World;
-use shm_pager::Pager;
+use shm_pager_core::Pager;
 
 #[tactic(auto, using(crate::proofs::Keeping::pieces_are_of_segments))]
 /// The history of the world. A process can only get a piece of a segment that exists, and a segment with a

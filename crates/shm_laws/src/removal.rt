@@ -3,7 +3,7 @@ ghost use Rattle.shm_laws.specs.Removal.{GoesWhenItMust};
 
 use shm_base::Event;
 use shm_history::World;
-use shm_pager::Pager;
+use shm_pager_core::Pager;
 
 /// The history of the world. A segment is destroyed exactly by an rmid that finds it without pieces, or by the event that
 /// takes its last piece while it is marked. A marked segment that exists always has a piece. A successful rmid marks its

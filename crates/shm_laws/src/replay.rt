@@ -3,7 +3,7 @@ ghost use Rattle.shm_laws.specs.Replay.{IsReplayed};
 
 use shm_base::Event;
 use shm_history::World;
-use shm_pager::Pager;
+use shm_pager_core::Pager;
 
 #[tactic(auto, using(crate::proofs::Replaying::replayed))]
 /// The history of the world. Its opening and calls determine the replies and the end, except for calls at which a pager

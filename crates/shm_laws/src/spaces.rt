@@ -3,7 +3,7 @@ ghost use Rattle.shm_laws.specs.Spaces.{SpacesAreLaidOut};
 
 use shm_base::Event;
 use shm_history::World;
-use shm_pager::Pager;
+use shm_pager_core::Pager;
 
 #[tactic(auto, using(crate::proofs::Keeping::spaces_are_laid_out))]
 /// The history of the world. The pieces of a process never overlap. Each has whole pages, within the bounds

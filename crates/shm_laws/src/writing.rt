@@ -3,7 +3,7 @@ ghost use Rattle.shm_laws.specs.Writing.{HasLastWriters};
 
 use shm_base::Event;
 use shm_history::World;
-use shm_pager::Pager;
+use shm_pager_core::Pager;
 
 #[tactic(auto, using(crate::proofs::Remembering::has_last_writers))]
 /// The history of the world. Each byte of a segment always has the value that the last event wrote to it, or

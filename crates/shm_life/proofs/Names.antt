@@ -54,7 +54,7 @@ pub use Rattle.shm_fault.specs.Store.{StoreView, frame_of, held_by, used, IsResi
 pub use Rattle.shm_fault.specs.declared.touched.PageMove.{PageMove}
 pub use Rattle.shm_fault.specs.declared.touched.Touched.{Touched}
 pub use Rattle.shm_ids.proofs.Flat.{change-index}
-pub use Rattle.shm_pager.specs.Pages.{SideCalls, pager_seen}
+pub use Rattle.shm_pager_core.specs.Pages.{SideCalls, pager_seen}
 pub use Rattle.shm_fault.proofs.Found.{find-without_other}
 pub use Rattle.shm_fault.specs.Allowed.{IsAccess}
 pub use Rattle.shm_fault.specs.Apart.{AreHeldApart}

@@ -5,7 +5,7 @@ use Rattle.std.proofs.Crossing.{crosses}
 use Rattle.shm_attach.specs.contracts.spaces.Spaces as spaces
 use Rattle.shm_fault.specs.contracts.store.PageStore as store
 use Rattle.shm_life.specs.contracts.system.System as system
-use Rattle.shm_pager.specs.declared.pager.Pager.{Ghosts}
+use Rattle.shm_pager_core.specs.declared.pager.Pager.{Ghosts}
 
 spaces_send : IsSend spaces.the_row
 spaces_send = search (sendable, crosses) depth 200 fits 100000

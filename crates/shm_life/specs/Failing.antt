@@ -1,8 +1,8 @@
 -- A host makes reads and writes of swap areas fail while the machine runs. It is no call of a process.
 use Rattle.std.specs.Prelude.{ℕ, ◌≡◌, ◌⊎◌, not, if◌then◌else◌, Option, Some, None, is_none, Result, MatchResult, OnErr, OnOk}
 use Rattle.shm_base.specs.declared.paging.PageRef.{PageRef}
-use Rattle.shm_pager.specs.declared.failing.ComingFailure.{ComingFailure}
-use Rattle.shm_pager.specs.declared.failing.FailRefused.{FailRefused}
+use Rattle.shm_pager_core.specs.declared.failing.ComingFailure.{ComingFailure}
+use Rattle.shm_pager_core.specs.declared.failing.FailRefused.{FailRefused}
 use Rattle.shm_slots.specs.Failing.{FailsInSwap, IsRefusedIn}
 use Rattle.shm_slots.specs.View.{SwapView, area_at}
 use Rattle.shm_fault.specs.Failing.{slot_failed}

@@ -16,7 +16,7 @@ use crate::kernel::Kernel;
 use shm_attach::{Caller, Spans};
 use shm_base::{AccessLen, Chunk, Errno, LONGEST_ACCESS, Reply, Span};
 use shm_fault::{Act, Touched};
-use shm_pager::Pager;
+use shm_pager_core::Pager;
 
 // The span, if there is only one and its frame is known, so that no page has to come in.
 #[inline(always)]

@@ -7,7 +7,7 @@ ghost use Rattle.shm_life.specs.declared.changing.TheConstants.{COUNTS};
 
 use crate::system::System;
 use shm_base::Call;
-use shm_pager::Pager;
+use shm_pager_core::Pager;
 
 /// How many counts of changes a machine keeps.
 pub const COUNTS: usize = 64;

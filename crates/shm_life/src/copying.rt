@@ -4,7 +4,7 @@ ghost use Rattle.std.specs.Prelude.{◌≡◌, IfOk};
 use crate::kernel::Kernel;
 use crate::system::{Opening, System};
 use shm_base::HostMemory;
-use shm_pager::ClonePager;
+use shm_pager_core::ClonePager;
 
 impl Opening {
     fn try_clone(&self) -> Result<Opening, HostMemory>

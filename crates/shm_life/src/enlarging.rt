@@ -2,7 +2,7 @@
 ghost use Rattle.std.specs.Prelude.{◌≡◌, ◌<◌, length, IfNone, OnErr, OnOk};
 ghost use Rattle.shm_base.specs.declared.bounds.TheConstants.{MOST_AREAS};
 ghost use Rattle.shm_fault.specs.Store.{held};
-ghost use Rattle.shm_pager.specs.Pages.{pager_seen};
+ghost use Rattle.shm_pager_core.specs.Pages.{pager_seen};
 ghost use Rattle.shm_slots.specs.View.{IsAreaSize, fresh, with_new};
 ghost use Rattle.shm_life.specs.Enlarging.{IsEnlarged, area_refusal, enlarged};
 
@@ -10,7 +10,7 @@ use crate::kernel::Kernel;
 use crate::start::{StartError, is_area_size};
 use crate::system::System;
 use shm_base::{HostMemory, MOST_AREAS};
-use shm_pager::Pager;
+use shm_pager_core::Pager;
 use std::alloc::Global;
 
 impl<P: Pager> Kernel<P> {

@@ -8,7 +8,7 @@ ghost use Rattle.shm_life.specs.MachineView.{Served};
 use crate::kernel::Kernel;
 use crate::sweep::after_detach;
 use shm_attach::Caller;
-use shm_pager::Pager;
+use shm_pager_core::Pager;
 
 impl<P: Pager> Kernel<P> {
     #[tactic(auto, using(crate::proofs::Running::kept_refl, crate::proofs::Running::pages_ended))]

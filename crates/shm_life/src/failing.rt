@@ -8,7 +8,7 @@ ghost use Rattle.shm_life.specs.Failing.{FailsPage, IsFailing, IsRefusedPage, pa
 use crate::kernel::Kernel;
 use crate::system::System;
 use shm_base::PageRef;
-use shm_pager::{ComingFailure, FailPager, FailRefused};
+use shm_pager_core::{ComingFailure, FailPager, FailRefused};
 
 /// Why reads of a page's slot can't be made to fail.
 #[derive(Clone, Copy, Debug, PartialEq, Eq)]

@@ -16,7 +16,7 @@ use bitflags::Flags;
 use shm_areas::is_reserved;
 use shm_attach::Caller;
 use shm_base::{AtFlags, END_ADDRESS, Errno, LOWEST_ADDRESS, PAGE_SIZE, Rules};
-use shm_pager::Pager;
+use shm_pager_core::Pager;
 use shm_segments::Found;
 
 /// The refusal of too many pieces: Emfile, or Enomem under `Rules::PIECES_ARE_ENOMEM`.

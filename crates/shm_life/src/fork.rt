@@ -13,7 +13,7 @@ use bitflags::Flags;
 use shm_areas::Piece;
 use shm_attach::Caller;
 use shm_base::{Errno, Rules};
-use shm_pager::Pager;
+use shm_pager_core::Pager;
 use shm_segments::Segments;
 
 // Sets the time and the last pid of an attach for the segment of each of these pieces.

@@ -7,7 +7,7 @@ ghost use Rattle.shm_life.specs.Guest.{Admitted, Dismissed, IsNotAdmitted};
 use crate::kernel::Kernel;
 use crate::system::System;
 use shm_base::{AdmitRefusal, DismissRefusal, HostMemory, Process};
-use shm_pager::Pager;
+use shm_pager_core::Pager;
 use std::alloc::Global;
 
 impl<P: Pager> Kernel<P> {

@@ -8,7 +8,7 @@ ghost use Rattle.shm_base.specs.Memory.{TakesNoMemory};
 use shm_attach::{Caller, Spaces};
 use shm_base::{Call, Errno, HostMemory, HostRange, Limits, Reply};
 use shm_fault::Act;
-use shm_pager::Pager;
+use shm_pager_core::Pager;
 use shm_segments::Segments;
 use std::marker::Model;
 

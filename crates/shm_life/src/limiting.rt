@@ -8,7 +8,7 @@ ghost use Rattle.shm_base.specs.Bounds.{bounds_of};
 use crate::kernel::Kernel;
 use crate::system::System;
 use shm_base::{BadLimits, Limits, Sizes};
-use shm_pager::Pager;
+use shm_pager_core::Pager;
 
 /// The limits that can change while a machine runs.
 #[derive(Clone, Copy, Debug, PartialEq, Eq)]

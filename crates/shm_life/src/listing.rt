@@ -9,7 +9,7 @@ ghost use Rattle.shm_life.specs.Listed.{IsHighest, Sums, segment_of, stat_at};
 
 use crate::system::System;
 use shm_base::{Errno, ShmId, ShmidDs, Want, grants};
-use shm_pager::Pager;
+use shm_pager_core::Pager;
 
 /// Sums over all segments (SHM_INFO of shmctl(2)). A page has 4,096 bytes.
 #[derive(Clone, Copy, Debug, PartialEq, Eq)]

@@ -22,7 +22,7 @@ use crate::kernel::Kernel;
 use crate::system::System;
 use shm_base::{Errno, PAGE_BYTES, PAGE_SIZE, PageRef, Span};
 use shm_fault::{Act, FrameInfo};
-use shm_pager::Pager;
+use shm_pager_core::Pager;
 
 /// Why a page is not lent.
 #[derive(Clone, Copy, Debug, PartialEq, Eq)]

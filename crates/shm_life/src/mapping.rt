@@ -11,7 +11,7 @@ use crate::kernel::Kernel;
 use crate::sweep::{after_detach, attach_rests};
 use shm_attach::Caller;
 use shm_base::{Cred, END_ADDRESS, Errno, PAGE_SIZE};
-use shm_pager::Pager;
+use shm_pager_core::Pager;
 
 /// The end of a range that is to be unmapped. Einval: the address is within a page, the length is 0, or the
 /// range ends above the addresses.

@@ -9,7 +9,7 @@ ghost use Rattle.shm_life.specs.Notices.{Notices};
 use crate::kernel::Kernel;
 use crate::system::System;
 use shm_base::{Errno, INDEXES, SEQUENCES};
-use shm_pager::Pager;
+use shm_pager_core::Pager;
 
 /// A report of a destroyed segment, or why there is none.
 #[derive(Clone, Copy, Debug, PartialEq, Eq)]

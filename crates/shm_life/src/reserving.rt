@@ -10,7 +10,7 @@ use crate::kernel::Kernel;
 use crate::system::System;
 use shm_areas::is_reserved;
 use shm_base::{END_ADDRESS, HostMemory, HostRange, LOWEST_ADDRESS, PAGE_SIZE, RangeRefusal};
-use shm_pager::Pager;
+use shm_pager_core::Pager;
 
 // Whether it is whole pages of the addresses that can be attached, at least one.
 fn is_range(range: HostRange) -> bool

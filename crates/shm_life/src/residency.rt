@@ -6,7 +6,7 @@ ghost use Rattle.shm_life.specs.Residency.{ShowsPages, is_away, resident_below, 
 use crate::system::System;
 use shm_base::PageRef;
 use shm_fault::PageStore;
-use shm_pager::Pager;
+use shm_pager_core::Pager;
 
 /// Where the pages of a segment are. Those that were never touched are in no frame and in no slot.
 #[derive(Clone, Copy, Debug, PartialEq, Eq)]

@@ -18,7 +18,7 @@ use crate::sweep::{after_detach, attach_rests};
 use bitflags::Flags;
 use shm_attach::Caller;
 use shm_base::{AtFlags, Errno, HostMemory, PAGE_SIZE, Placed, Rules, ShmId, Want, grants};
-use shm_pager::Pager;
+use shm_pager_core::Pager;
 
 impl<P: Pager> Kernel<P> {
     // Whether SHM_REMAP is given with a null address, or an address is unaligned without SHM_RND (shmop(2)).

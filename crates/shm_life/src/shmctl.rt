@@ -19,7 +19,7 @@ use crate::sweep::remove;
 use bitflags::Flags;
 use shm_attach::Caller;
 use shm_base::{Cred, Errno, Perm, Rules, ShmId, ShmidDs, Status, Want, grants};
-use shm_pager::Pager;
+use shm_pager_core::Pager;
 use shm_segments::Found;
 
 /// Whether a process may set, remove, lock and unlock: it is the owner, the creator, or user 0.

@@ -7,7 +7,7 @@ use crate::kernel::Kernel;
 use crate::sweep::after_detach;
 use shm_attach::Caller;
 use shm_base::Errno;
-use shm_pager::Pager;
+use shm_pager_core::Pager;
 
 impl<P: Pager> Kernel<P> {
     #[tactic(auto, using(crate::proofs::Running::kept_refl, crate::proofs::Running::pages_rest))]

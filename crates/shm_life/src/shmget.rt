@@ -19,7 +19,7 @@ use crate::kernel::Kernel;
 use bitflags::Flags;
 use shm_attach::Caller;
 use shm_base::{Errno, GetFlags, HostMemory, MODES, Perm, Rules, ShmId, Want, grants, pages_of};
-use shm_pager::Pager;
+use shm_pager_core::Pager;
 use shm_segments::{Found, Head};
 
 /// The permissions that the nine bits of a shmget of a found key ask for: reading if any read bit is set,

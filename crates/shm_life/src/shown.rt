@@ -5,7 +5,7 @@ ghost use Rattle.shm_life.specs.MachineView.{IsExactly};
 use crate::system::System;
 use shm_attach::Spaces;
 use shm_fault::PageStore;
-use shm_pager::Pager;
+use shm_pager_core::Pager;
 
 impl<P: Pager> System<P> {
     /// The pages of the segments in frames and swap areas. They always show the machine exactly.

@@ -6,7 +6,7 @@ ghost use Rattle.shm_slots.specs.View.{IsAreaSize};
 ghost use Rattle.shm_life.specs.Start.{start_error, are_pids, error_number};
 
 use shm_base::{LAST_PID, Limits, MOST_AREAS, PROFILE_PROCESSES, Process, has_pid};
-use shm_pager::Pager;
+use shm_pager_core::Pager;
 use std::alloc::{AllocError, Global};
 use std::collections::HashSet;
 use thiserror::Error;

@@ -6,7 +6,7 @@ ghost use Rattle.shm_life.specs.MachineView.{Served, replied, done};
 use crate::kernel::Kernel;
 use shm_attach::Caller;
 use shm_base::Errno;
-use shm_pager::Pager;
+use shm_pager_core::Pager;
 
 impl<P: Pager> Kernel<P> {
     #[tactic(auto, using(crate::proofs::Running::kept_refl, crate::proofs::Running::pages_refused))]

@@ -15,7 +15,7 @@ ghost use Rattle.shm_life.specs.Orphans.{MayBeSwept, OrphansAmong, Sweeps};
 use bitflags::Flags;
 use shm_attach::Spaces;
 use shm_base::Rules;
-use shm_pager::Pager;
+use shm_pager_core::Pager;
 use shm_segments::{Found, Segments};
 
 // Sets the time and the last pid of a detach for each of these segments.

@@ -2,7 +2,7 @@
 ghost use Rattle.std.specs.Prelude.{◌≡◌, ◌<◌, length, map, IfOk, IfErr, OnOk, OnErr, None};
 ghost use Rattle.shm_life.specs.Start.{start_error, IsFirstError};
 ghost use Rattle.shm_slots.specs.View.{fresh, AreCountsOf};
-ghost use Rattle.shm_pager.specs.Pages.{pager_seen};
+ghost use Rattle.shm_pager_core.specs.Pages.{pager_seen};
 ghost use Rattle.shm_fault.specs.Flushing.{IsFlushed};
 ghost use Rattle.shm_life.specs.MachineView.{KeepsOn, IsExactly};
 ghost use Rattle.shm_life.specs.SystemState.{IsStarted, IsOutOfMemory, Replied, most_calls, time_of};
@@ -14,7 +14,7 @@ use crate::kernel::Kernel;
 use crate::start::{StartError, first_error};
 use shm_attach::Spaces;
 use shm_base::{Call, FlushReport, HostMemory, Limits, Process, Reply, ShmId, ShmidDs, Tally};
-use shm_pager::Pager;
+use shm_pager_core::Pager;
 use shm_segments::Segments;
 use shm_slots::Swap;
 use std::alloc::{AllocError, Global};

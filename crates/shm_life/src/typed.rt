@@ -14,7 +14,7 @@ ghost use Rattle.shm_life.specs.Lending.{KeepsLoans, pages_asked};
 use crate::system::System;
 use shm_base::Errno;
 use shm_fault::Act;
-use shm_pager::Pager;
+use shm_pager_core::Pager;
 
 impl<P: Pager> System<P> {
     /// The access of a process that does an act at the bytes from an address on. If `there` is as long as they

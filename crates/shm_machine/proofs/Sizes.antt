@@ -6,7 +6,7 @@ use Rattle.std.proofs.Math.Seq.{take-suc}
 use Rattle.std.proofs.lemmas.List.{length-map, length-take-le}
 use Rattle.shm_base.specs.Bounds.{Bounds}
 use Rattle.shm_base.specs.declared.call.Process.{Process}
-use Rattle.shm_pager.specs.Pages.{PagerView, pager_seen}
+use Rattle.shm_pager_core.specs.Pages.{PagerView, pager_seen}
 use Rattle.shm_slots.specs.View.{fresh}
 use Rattle.shm_life.specs.Start.{IsFirstError, start_error}
 use Rattle.shm_life.specs.declared.start.StartError.{StartError}
@@ -14,7 +14,7 @@ use Rattle.shm_life.specs.declared.start.StartError.TheVariants.{HostMemory}
 use Rattle.shm_pager.specs.declared.area.AreaPager.{AreaPager}
 use Rattle.shm_machine.specs.declared.opening.AreaConfig.{AreaConfig}
 use Rattle.shm_machine.specs.declared.opening.Failure.{Failure}
-use Rattle.shm_pager.specs.declared.failing.Side.TheVariants.{Left, Right}
+use Rattle.shm_pager_core.specs.declared.failing.Side.TheVariants.{Left, Right}
 use Rattle.shm_pager.specs.Areas.{area_pages, failed_in, most_in, calls_in}
 use Rattle.shm_pager.proofs.Made.{made-seen}
 use Rattle.shm_machine.specs.Opened.{sizes_of, failing_at, IsMade, AreMade, pagers_made}

@@ -6,9 +6,9 @@ use Rattle.shm_slots.specs.View.{AreaView, fresh}
 use Rattle.shm_life.specs.SystemState.{SystemState, IsStarted}
 use Rattle.shm_machine.specs.declared.opening.AreaConfig.{AreaConfig}
 use Rattle.shm_machine.specs.declared.opening.Failure.{Failure}
-use Rattle.shm_pager.specs.declared.failing.Side.{Side}
-use Rattle.shm_pager.specs.declared.failing.Side.TheVariants.{Left, Right}
-use Rattle.shm_pager.specs.Pages.{PagerView, blank}
+use Rattle.shm_pager_core.specs.declared.failing.Side.{Side}
+use Rattle.shm_pager_core.specs.declared.failing.Side.TheVariants.{Left, Right}
+use Rattle.shm_pager_core.specs.Pages.{PagerView, blank}
 use Rattle.shm_pager.specs.Areas.{FailingCalls, IsOfKind, calls_of_kind, most_of_kind}
 use Rattle.shm_pager.specs.declared.area.AreaPager.{AreaPager}
 

@@ -13,5 +13,6 @@ mod stretch;
 pub use machine::Machine;
 pub use opening::{AreaConfig, Failure};
 pub use refusal::Refusal;
-pub use shm_pager::{AreaKind, Side};
+pub use shm_pager::AreaKind;
+pub use shm_pager_core::Side;
 pub use stretch::Progress;

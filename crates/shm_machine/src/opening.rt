@@ -3,7 +3,8 @@ ghost use Rattle.std.specs.Prelude.{◌≡◌, ◌==◌, ◌≤◌, IfOk, length
 ghost use Rattle.shm_machine.specs.Opened.{is_at, calls_at, IsMade, AreMade};
 
 use shm_base::HostMemory;
-use shm_pager::{AreaKind, AreaPager, Failing, Side};
+use shm_pager::{AreaKind, AreaPager, Failing};
+use shm_pager_core::Side;
 use std::alloc::Global;
 
 /// A swap area: its kind and its number of slots. Each side of a mirror has as many.

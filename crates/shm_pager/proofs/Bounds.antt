@@ -1,7 +1,7 @@
 -- The most failures that a fuse will count.
 use Rattle.std.proofs.Common.{◌≡◌, ℕ, ◌<◌, ◌≤◌, ◌+◌, ◌-◌, Bool, true, false, not, ◌&&◌, ◌||◌, if◌then◌else◌, List, [], ◌∷◌, Option, None, min, refl, sym, ◌∙◌, arith}
 use Rattle.std.proofs.lemmas.Grind.{common_steps}
-use Rattle.shm_pager.specs.Pages.{PagerView, Counts, TriesRead, served, last_count, next_count}
+use Rattle.shm_pager_core.specs.Pages.{PagerView, Counts, TriesRead, served, last_count, next_count}
 use Rattle.shm_pager.specs.Fuse.{FuseView, after_read, after_write, is_bad_slot, is_listed, is_past, listed_above, is_endless, fuse_most, read_is_bad, write_is_bad}
 use Rattle.shm_pager.specs.Failing.{reads_of, writes_of}
 

@@ -3,11 +3,13 @@ use Rattle.std.proofs.Common.{◌≡◌, ℕ, ◌<◌, ◌≤◌, ◌+◌, Bool,
 use Rattle.std.proofs.lemmas.Bool.{false≢true}
 use Rattle.std.proofs.lemmas.Grind.{common_steps}
 use Rattle.std.specs.Prelude.{Result, Ok, Err, OnOk}
-use Rattle.shm_pager.specs.Pages.{last_count}
-use Rattle.shm_pager.specs.Fuse.{FuseView, Places, is_listed, listed_above, is_endless, fuse_most, place_after, with_place}
+use Rattle.shm_pager_core.specs.Pages.{last_count}
+use Rattle.shm_pager_core.specs.Failing.{Places, place_after, with_place}
+use Rattle.shm_pager.specs.Fuse.{FuseView, is_listed, listed_above, is_endless, fuse_most}
 use Rattle.shm_pager.specs.Areas.{fuse_seen}
-use Rattle.shm_pager.specs.Failing.{FailsLater, reads_of, with_reads, with_writes, writes_of}
-use Rattle.shm_pager.specs.declared.failing.ComingFailure.{ComingFailure}
+use Rattle.shm_pager_core.specs.Failing.{FailsLater}
+use Rattle.shm_pager.specs.Failing.{reads_of, with_reads, with_writes, writes_of}
+use Rattle.shm_pager_core.specs.declared.failing.ComingFailure.{ComingFailure}
 use Rattle.shm_pager.proofs.Bounds.{most_of, most_of-le, one_if}
 
 -- one more place is listed

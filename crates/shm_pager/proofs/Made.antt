@@ -1,7 +1,7 @@
 -- What is seen of a new area.
 use Rattle.std.proofs.Common.{◌≡◌, ℕ, zero, suc, List, ◌∷◌, drop, replicate, refl, ap, arith}
 use Rattle.std.proofs.lemmas.Grind.{common_steps}
-use Rattle.shm_pager.specs.Pages.{blank, last_count, pager_seen}
+use Rattle.shm_pager_core.specs.Pages.{blank, last_count, pager_seen}
 use Rattle.shm_pager.specs.Fuse.{fuse_most}
 use Rattle.shm_pager.specs.Mirror.{left_alone, merged}
 use Rattle.shm_pager.specs.Areas.{FailingCalls, IsOfKind, area_pages, failed_in, fails_at, most_in, calls_in, most_of_kind, calls_of_kind}

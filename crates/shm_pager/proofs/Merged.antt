@@ -2,7 +2,7 @@
 use Rattle.std.proofs.Common.{◌≡◌, ℕ, zero, suc, ◌<◌, ◌⊎◌, true, false, if◌then◌else◌, List, [], ◌∷◌, length, get_or, set, drop, replicate, refl, ap, ◌∙◌, inl, inr, arith, get_or-set_same}
 use Rattle.std.proofs.lemmas.Grind.{common_steps}
 use Rattle.std.proofs.lemmas.List.{get_or_read}
-use Rattle.shm_pager.specs.Pages.{SlotUnknown}
+use Rattle.shm_pager_core.specs.Pages.{SlotUnknown}
 use Rattle.shm_pager.specs.Mirror.{MirrorSeen, merged, pages_shown, good_at, no_side}
 use Rattle.shm_pager.specs.declared.mirror.Good.{Good}
 

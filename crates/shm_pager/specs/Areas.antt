@@ -1,6 +1,6 @@
 -- The pages and failures of an area of each kind.
 use Rattle.std.specs.Prelude.{ℕ, ◌≡◌, List, [], ◌∷◌, Result, replicate}
-use Rattle.shm_pager.specs.Pages.{PagerView, SideCalls, blank, last_count, new_side, pager_seen}
+use Rattle.shm_pager_core.specs.Pages.{PagerView, SideCalls, blank, last_count, new_side, pager_seen}
 use Rattle.shm_pager.specs.Fuse.{FuseView, after_read, after_write, new_fuse, fuse_most, fuse_calls}
 use Rattle.shm_pager.specs.Mirror.{MirrorView, MirrorSeen, ReadsMirror, WritesMirror, mirror_of, mirror_seen, mirror_calls, pages_shown, left_alone}
 use Rattle.shm_pager.specs.declared.area.AreaPager.{AreaPager}

@@ -1,7 +1,7 @@
 -- What contracts see of a fuse.
-use Rattle.std.specs.Prelude.{ℕ, ◌+◌, ◌-◌, Bool, false, not, ◌==◌, ◌&&◌, ◌||◌, nat_le, nat_lt, if◌then◌else◌, List, [], ◌∷◌, ◌++◌, Option, Some, None, is_some, min, filter, replicate}
+use Rattle.std.specs.Prelude.{ℕ, ◌+◌, ◌-◌, Bool, false, not, ◌==◌, ◌&&◌, ◌||◌, nat_le, nat_lt, if◌then◌else◌, List, [], ◌∷◌, Option, Some, None, is_some, min, filter, replicate}
 use Rattle.std.specs.List.{list_any}
-use Rattle.shm_pager.specs.Pages.{PagerView, SideCalls, new_side, next_count, last_count}
+use Rattle.shm_pager_core.specs.Pages.{PagerView, SideCalls, new_side, next_count, last_count}
 use Rattle.shm_base.specs.declared.paging.TheConstants.{PAGE_SIZE}
 
 pub record FuseView : Type 0 where
@@ -73,25 +73,3 @@ fuse_most f = if is_endless f then last_count else min (f.failed + failures_left
 -- the page that a write which fails on purpose leaves in its slot
 abbrev pub scorched_page : List ℕ
 scorched_page = replicate PAGE_SIZE 0xa5
-
--- the place of a call to come, counted from 1 after this many calls
-abbrev pub place_after : ℕ → ℕ → ℕ
-place_after calls call = min (calls + call) last_count
-
--- every call fails from this place on, or from the one that was given before, if that is lower
-abbrev pub sooner : Option ℕ → ℕ → ℕ
-sooner None place = place
-sooner (Some end) place = min end place
-
--- the places of one kind of calls, and the place from which on each fails
-pub record Places : Type 0 where
-  pub listed : List ℕ
-  pub end : Option ℕ
-
-abbrev pub places : List ℕ → Option ℕ → Places
-places listed end = record { listed = listed; end = end }
-
--- one more call fails; if that is lasting, each later one too
-abbrev pub with_place : Bool → ℕ → Places → Places
-with_place is_lasting place p =
-    if is_lasting then record p { end = Some (sooner p.end place) } else record p { listed = p.listed ++ place ∷ [] }

@@ -1,7 +1,7 @@
 -- What contracts see of a mirror.
 use Rattle.std.specs.Prelude.{ℕ, ◌≡◌, Bool, true, false, not, ◌&&◌, ◌||◌, if◌then◌else◌, List, [], ◌∷◌, ◌++◌, length, get_or, set, drop, replicate, Result, is_ok, IfOk}
 use Rattle.shm_base.specs.Page.{zero_page}
-use Rattle.shm_pager.specs.Pages.{PagerView, SideCalls, pager_seen, served, SlotUnknown, CountsErr, TriesRead, TriesWrite}
+use Rattle.shm_pager_core.specs.Pages.{PagerView, SideCalls, pager_seen, served, SlotUnknown, CountsErr, TriesRead, TriesWrite}
 use Rattle.shm_pager.specs.declared.mirror.Good.{Good}
 
 pub record MirrorView (L R : Type 0) : Type 0 where

@@ -2,16 +2,16 @@
 ghost use Rattle.std.specs.Prelude.{◌≡◌, ◌<◌, ◌≤◌, [], IfOk, OnErr, OnOk, get_or, length, replicate, set, true};
 ghost use Rattle.shm_base.specs.Page.{zero_page};
 ghost use Rattle.shm_pager.specs.Areas.{area_pages, failed_in, most_in, calls_in, calls_of, fails_at, IsOfKind, ReadsOnce, WritesOnce};
-ghost use Rattle.shm_pager.specs.Failing.{FailsLater, IsRefusedFailure, area_will_fail, area_with_bad_slot, calls_failing, endless, is_mirror, is_to_come};
-ghost use Rattle.shm_pager.specs.Pages.{last_count, pager_seen, CountsErr, KeepsMost, SlotUnknown};
+ghost use Rattle.shm_pager_core.specs.Failing.{FailsLater, IsRefusedFailure, calls_failing, endless, is_to_come};
+ghost use Rattle.shm_pager.specs.Failing.{area_will_fail, area_with_bad_slot, is_mirror};
+ghost use Rattle.shm_pager_core.specs.Pages.{last_count, pager_seen, CountsErr, KeepsMost, SlotUnknown};
 
-use crate::failing::{ComingFailure, FailPager, FailRefused};
 use crate::fuse::FusePager;
 use crate::mirror::MirrorPager;
-use crate::pager::{ClonePager, Pager, PagerFault};
 use crate::ram::RamPager;
 use crate::sparse::SparsePager;
 use shm_base::{HostMemory, PAGE_BYTES};
+use shm_pager_core::{ClonePager, ComingFailure, FailPager, FailRefused, Pager, PagerFault};
 use std::alloc::Global;
 
 /// A kind of swap area. `Ram`: a page of memory for each slot. `Sparse`: memory only for slots with a byte

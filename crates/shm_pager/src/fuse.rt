@@ -1,14 +1,18 @@
 //! A pager that fails at chosen calls.
 ghost use Rattle.std.specs.Prelude.{◌≡◌, ◌<◌, ◌≤◌, ◌||◌, [], ◌∷◌, ◌++◌, length, set, get_or, replicate, true, false, not, ◌&&◌, if◌then◌else◌, is_ok, IfOk, OnErr, OnOk};
 ghost use Rattle.shm_base.specs.Page.{zero_page};
-ghost use Rattle.shm_pager.specs.Pages.{last_count, next_count, pager_seen, served, SlotUnknown, CountsErr, KeepsMost, TriesWrite, TriesRead};
-ghost use Rattle.shm_pager.specs.Fuse.{after_read, after_write, new_fuse, is_bad_slot, is_listed, is_past, read_is_bad, write_is_bad, scorched_page, sooner, fuse_calls, fuse_most, place_after, places, with_place, without_slot};
+ghost use Rattle.shm_pager_core.specs.Pages.{last_count, next_count, pager_seen, served, SlotUnknown, CountsErr, KeepsMost, TriesWrite, TriesRead};
+ghost use Rattle.shm_pager_core.specs.Failing.{sooner, place_after, places, with_place};
+ghost use Rattle.shm_pager.specs.Fuse.{after_read, after_write, new_fuse, is_bad_slot, is_listed, is_past, read_is_bad, write_is_bad, scorched_page, fuse_calls, fuse_most, without_slot};
 ghost use Rattle.shm_pager.specs.Areas.{fuse_seen};
-ghost use Rattle.shm_pager.specs.Failing.{FailsLater, IsRefusedFailure, calls_failing, endless, is_to_come, will_fail, with_bad_slot};
+ghost use Rattle.shm_pager_core.specs.Failing.{FailsLater, IsRefusedFailure, calls_failing, endless, is_to_come};
+ghost use Rattle.shm_pager.specs.Failing.{will_fail, with_bad_slot};
 
-use crate::failing::{ComingFailure, FailPager, FailRefused};
-use crate::pager::{ClonePager, Pager, PagerFault, read_if, try_write};
+use crate::asked::read_if;
 use shm_base::{HostMemory, PAGE_BYTES};
+use shm_pager_core::{
+    ClonePager, ComingFailure, FailPager, FailRefused, Pager, PagerFault, try_write,
+};
 use std::alloc::AllocError;
 use std::marker::Model;
 
@@ -33,7 +37,7 @@ pub struct FusePager<P: Pager> {
 }
 
 impl<P: Pager> Model for FusePager<P> {
-    ghost use Rattle.shm_pager.specs.Pages.{pager_seen};
+    ghost use Rattle.shm_pager_core.specs.Pages.{pager_seen};
     ghost use Rattle.shm_pager.specs.Fuse.{FuseView};
 
     ghost Value = { FuseView };

@@ -5,17 +5,18 @@
 #![tactic(auto)]
 
 mod area;
-mod failing;
+mod asked;
 mod fuse;
 mod mirror;
-mod pager;
 mod ram;
 mod sparse;
 
 pub use area::{AreaKind, AreaPager, Failing};
-pub use failing::{ComingFailure, FailPager, FailRefused, Side};
 pub use fuse::FusePager;
 pub use mirror::{MirrorCause, MirrorPager, MirrorRefused};
-pub use pager::{AnyPager, ClonePager, Pager, PagerFault, try_read, try_write};
 pub use ram::RamPager;
+pub use shm_pager_core::{
+    AnyPager, ClonePager, ComingFailure, FailPager, FailRefused, Pager, PagerFault, Side, try_read,
+    try_write,
+};
 pub use sparse::SparsePager;

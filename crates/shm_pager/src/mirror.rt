@@ -1,15 +1,18 @@
 //! Two pagers that hold the same pages.
 ghost use Rattle.std.specs.Prelude.{◌≡◌, ◌≢◌, ◌<◌, ◌==◌, length, set, replicate, if◌then◌else◌, true, IfOk, IfErr, IsErr, OnErr, OnOk};
 ghost use Rattle.shm_pager.specs.Areas.{both_calls, mirror_pages};
-ghost use Rattle.shm_pager.specs.Failing.{FailsLater, IsRefusedFailure, calls_failing, endless, is_to_come, side_will_fail, with_bad_sides};
+ghost use Rattle.shm_pager_core.specs.Failing.{FailsLater, IsRefusedFailure, calls_failing, endless, is_to_come};
+ghost use Rattle.shm_pager.specs.Failing.{side_will_fail, with_bad_sides};
 ghost use Rattle.shm_pager.specs.Fuse.{FuseView};
-ghost use Rattle.shm_pager.specs.Pages.{last_count, pager_seen};
+ghost use Rattle.shm_pager_core.specs.Pages.{last_count, pager_seen};
 ghost use Rattle.shm_pager.specs.Mirror.{MirrorView, mirror_of, mirror_seen, mirror_calls, left_alone, both_sides, pages_shown, ReadsMirror, WritesMirror, DiscardsMirror, WipesMirror};
 
-use crate::failing::{ComingFailure, FailPager, FailRefused, Side};
+use crate::asked::read_if;
 use crate::fuse::FusePager;
-use crate::pager::{ClonePager, Pager, PagerFault, read_if, try_write};
 use shm_base::{HostMemory, PAGE_BYTES};
+use shm_pager_core::{
+    ClonePager, ComingFailure, FailPager, FailRefused, Pager, PagerFault, Side, try_write,
+};
 use std::alloc::{AllocError, Global};
 use std::marker::Model;
 use thiserror::Error;

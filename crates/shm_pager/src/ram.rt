@@ -2,8 +2,8 @@
 ghost use Rattle.std.specs.Prelude.{◌≡◌, ◌<◌, [], length, set, get_or, replicate, IsOk, IfOk};
 ghost use Rattle.shm_base.specs.Page.{zero_page};
 
-use crate::pager::{ClonePager, Pager, PagerFault};
 use shm_base::{HostMemory, PAGE_BYTES, zeros};
+use shm_pager_core::{ClonePager, Pager, PagerFault};
 use std::alloc::{AllocError, Global};
 use std::marker::Model;
 

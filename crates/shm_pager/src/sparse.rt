@@ -1,11 +1,11 @@
 //! Pages in memory, where pages of zeros take no memory.
 ghost use Rattle.std.specs.Prelude.{◌≡◌, ◌≢◌, ◌+◌, ◌<◌, ◌≤◌, ◌↔◌, [], length, set, get_or, replicate, vec_capacity, None, Some, IsTrue, IsOk, IfOk, MatchOption, OnErr};
 ghost use Rattle.shm_base.specs.Page.{zero_page};
-ghost use Rattle.shm_pager.specs.Pages.{last_count};
+ghost use Rattle.shm_pager_core.specs.Pages.{last_count};
 ghost use Rattle.shm_base.specs.Stored.{padded};
 
-use crate::pager::{ClonePager, Pager, PagerFault};
 use shm_base::{HostMemory, PAGE_BYTES, zeros};
+use shm_pager_core::{ClonePager, Pager, PagerFault};
 use std::alloc::{AllocError, Global};
 use std::marker::Model;
 

@@ -2,7 +2,8 @@
 use crate::pagers::{Access, accessed, accessed_once, answers};
 use Access::{Discard, Read, Wipe, Write};
 use shm_base::HostMemory;
-use shm_pager::{AreaKind, AreaPager, ClonePager, Failing, Pager};
+use shm_pager::{AreaKind, AreaPager, Failing};
+use shm_pager_core::{ClonePager, Pager};
 use std::alloc::{AllocError, Global};
 use std::process::Abort;
 use std::test::Fail;

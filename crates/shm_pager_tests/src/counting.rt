@@ -1,6 +1,7 @@
 //! A pager that counts its calls. The counts can be read while it is in use and after it was dropped.
 use crate::failing::fuse_at;
-use shm_pager::{FusePager, Pager, PagerFault, RamPager};
+use shm_pager::{FusePager, RamPager};
+use shm_pager_core::{Pager, PagerFault};
 use std::alloc::{AllocError, Global};
 use std::sync::Arc;
 use std::sync::atomic::{AtomicU64, Ordering};

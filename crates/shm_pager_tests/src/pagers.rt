@@ -3,10 +3,8 @@
 use crate::counting::{CountedRam, Counter};
 use crate::failing::{fuse, fuse_at};
 use shm_base::zeros;
-use shm_pager::{
-    AnyPager, FusePager, MirrorCause, MirrorPager, Pager, RamPager, SparsePager, try_read,
-    try_write,
-};
+use shm_pager::{FusePager, MirrorCause, MirrorPager, RamPager, SparsePager};
+use shm_pager_core::{AnyPager, Pager, try_read, try_write};
 use std::alloc::{AllocError, Global};
 use std::process::Abort;
 use std::test::Fail;

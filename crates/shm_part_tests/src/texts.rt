@@ -2,7 +2,8 @@
 use shm_attach::Segv;
 use shm_base::{AdmitRefusal, BadLimits, DismissRefusal, HostMemory};
 use shm_ids::LookRefused;
-use shm_pager::{MirrorCause, PagerFault};
+use shm_pager::MirrorCause;
+use shm_pager_core::PagerFault;
 use std::alloc::Global;
 use std::fmt::Display;
 

@@ -1,7 +1,8 @@
 //! How often the lines of a script call each area's pager, in file order.
 use crate::stop::Stop;
 use shm_history::World;
-use shm_pager::{AreaPager, Pager};
+use shm_pager::AreaPager;
+use shm_pager_core::Pager;
 use shm_pager_tests::{CountedPager, Counter};
 use shm_program::{SwapWord, Values, areas_of, open_world, run_line};
 use shm_text::Script;

@@ -3,7 +3,8 @@
 use crate::stop::{Part, Stop};
 use shm_base::{Call, Reply};
 use shm_history::World;
-use shm_pager::{AreaPager, Pager};
+use shm_pager::AreaPager;
+use shm_pager_core::Pager;
 use shm_program::{Action, SwapWord, Values, areas_of, open_world, push_step};
 use shm_text::{Line, Script};
 use std::alloc::{AllocError, Global};

@@ -18,7 +18,7 @@ pub use Rattle.shm_life.specs.Start.{start_error}
 pub use Rattle.shm_life.specs.declared.start.StartError.{StartError}
 pub use Rattle.shm_pager.proofs.Made.{made-seen}
 pub use Rattle.shm_pager.specs.Areas.{area_pages, calls_in, failed_in, most_in}
-pub use Rattle.shm_pager.specs.Pages.{SideCalls, pager_seen}
+pub use Rattle.shm_pager_core.specs.Pages.{SideCalls, pager_seen}
 pub use Rattle.shm_pager.specs.declared.area.AreaPager.{AreaPager}
 pub use Rattle.shm_program.specs.Areas.{IsAreaOf, areas_named, blank_of, calls_of, kind_of, no_calls, size_of}
 pub use Rattle.shm_program.specs.Ends.{is_reading}

@@ -1,6 +1,6 @@
 -- The pager that is made for each word for a swap area.
 use Rattle.std.specs.Prelude.{◌≡◌, ℕ, List, [], ◌∷◌, map}
-use Rattle.shm_pager.specs.Pages.{PagerView, blank}
+use Rattle.shm_pager_core.specs.Pages.{PagerView, blank}
 use Rattle.shm_pager.specs.Areas.{FailingCalls, IsOfKind, failed_in, calls_of_kind, most_of_kind}
 use Rattle.shm_pager.specs.declared.area.AreaKind.{AreaKind}
 use Rattle.shm_pager.specs.declared.area.AreaKind.TheVariants as kinds

@@ -2,7 +2,7 @@
 use Rattle.std.specs.Prelude.{◌≡◌, ◌<◌, ℕ, Bool, true, false, List, length, map, take, Option, Some, None, Result, Ok, Err}
 use Rattle.std.specs.Io.KnownBytes.{Appends, Keeps}
 use Rattle.shm_base.specs.State.{Opening}
-use Rattle.shm_pager.specs.Pages.{SideCalls, pager_seen}
+use Rattle.shm_pager_core.specs.Pages.{SideCalls, pager_seen}
 use Rattle.shm_slots.specs.View.{SwapView, fresh, new_swap}
 use Rattle.shm_fault.specs.Store.{StoreView, fresh_store}
 use Rattle.shm_life.specs.declared.start.StartError.{StartError}

@@ -4,7 +4,7 @@ ghost use Rattle.shm_history.specs.WorldState.{tally_of};
 ghost use Rattle.shm_print.specs.Usage.{usage_text};
 
 use shm_history::World;
-use shm_pager::Pager;
+use shm_pager_core::Pager;
 use std::alloc::{AllocError, Global};
 
 /// The present counts of a world, in three lines. AllocError: the host refused memory.

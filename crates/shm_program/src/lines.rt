@@ -3,7 +3,7 @@ ghost use Rattle.shm_program.specs.Listing.{line_shown, listing_of};
 
 use shm_base::{ShmId, ShmidDs};
 use shm_history::World;
-use shm_pager::Pager;
+use shm_pager_core::Pager;
 use shm_print::{header_line, segment_line};
 use std::alloc::{AllocError, Global};
 

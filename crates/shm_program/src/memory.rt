@@ -7,7 +7,7 @@ ghost use Rattle.shm_program.specs.Record.{numbered, frame_line, frames_text, sl
 use shm_base::PageRef;
 use shm_fault::PageStore;
 use shm_frames::{Frames, Looks};
-use shm_pager::Pager;
+use shm_pager_core::Pager;
 use shm_slots::Swap;
 use std::alloc::AllocError;
 

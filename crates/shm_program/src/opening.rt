@@ -5,7 +5,7 @@ ghost use Rattle.shm_program.specs.Runs.{IsOpening, IsFresh, IsStop, handed_in};
 
 use crate::fault::{RunFault, stopped};
 use shm_history::{System, World};
-use shm_pager::Pager;
+use shm_pager_core::Pager;
 use shm_text::Script;
 use std::alloc::Global;
 

@@ -6,7 +6,7 @@ use crate::action::Action;
 use crate::values::Values;
 use shm_base::{Event, HostMemory};
 use shm_history::World;
-use shm_pager::Pager;
+use shm_pager_core::Pager;
 use shm_text::Line;
 
 /// Runs a line: a command with the variables of its process, or a flush round. HostMemory: the host refused

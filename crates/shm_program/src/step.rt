@@ -9,7 +9,7 @@ use crate::memory::{push_areas, push_frames};
 use crate::processes::push_processes;
 use shm_fault::PageStore;
 use shm_history::World;
-use shm_pager::Pager;
+use shm_pager_core::Pager;
 use std::alloc::{AllocError, Global};
 
 // Appends the segments and the processes to a text.

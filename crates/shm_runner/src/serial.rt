@@ -12,7 +12,7 @@ use crate::world::write_world;
 use shm_base::HostMemory;
 use shm_history::World;
 use shm_laws::lawful;
-use shm_pager::Pager;
+use shm_pager_core::Pager;
 use shm_program::{RunFault, Values, open_world, run_line, whole_script};
 use shm_text::{Line, Script};
 use std::alloc::Global;
@@ -22,7 +22,7 @@ use std::io::{Read, Write};
 /// the listing of the segments, and the usage. The whole output is made before its first byte is written, so
 /// nothing is written at any fault except `WriteFailed`, which may leave a beginning of the output. Faults
 /// are found in this order: reading, script, start, run, writing. With pagers that never fail, such as
-/// [`shm_pager::RamPager`], the event lines and the listing are those of the flat machine, whatever was paged
+/// `RamPager` of shm_pager, the event lines and the listing are those of the flat machine, whatever was paged
 /// out.
 pub fn run_serial<R: Read, W: Write, P: Pager>(
     alloc: Global,

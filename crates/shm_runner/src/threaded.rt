@@ -13,7 +13,7 @@ use crate::fault::run_fault;
 use crate::world::write_world;
 use shm_history::World;
 use shm_laws::lawful;
-use shm_pager::Pager;
+use shm_pager_core::Pager;
 use shm_program::{RunFault, open_world, whole_script};
 use shm_text::Script;
 use shm_threads::{OpenGate, Outcome, Transcript, run_threads_unkept};

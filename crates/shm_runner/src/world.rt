@@ -8,7 +8,7 @@ ghost use Rattle.shm_runner.specs.Output.{IsWorldWritten, world_text};
 use shm_base::Event;
 use shm_history::World;
 use shm_laws::lawful;
-use shm_pager::Pager;
+use shm_pager_core::Pager;
 use shm_print::push_event;
 use shm_program::{RunFault, listing, usage, write_output};
 use std::alloc::{AllocError, Global};

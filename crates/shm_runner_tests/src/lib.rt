@@ -4,8 +4,6 @@
 #[cfg(test)]
 mod ends;
 #[cfg(test)]
-mod flat;
-#[cfg(test)]
 mod rows;
 #[cfg(test)]
 mod sweeps;

@@ -4,10 +4,11 @@
 ghost use Rattle.std.specs.Prelude.{IfOk};
 ghost use Rattle.shm_threads.specs.Outcomes.{IsOpened};
 
-use crate::flat::Flat;
 use shm_base::{AccessLen, AtFlags, Call, Chunk, Errno, Event, Reply, ShmId};
+use shm_flat_tests::Flat;
 use shm_history::World;
-use shm_pager::{FusePager, MirrorPager, Pager, RamPager};
+use shm_pager::{FusePager, MirrorPager, RamPager};
+use shm_pager_core::Pager;
 use shm_pager_tests::fuse;
 use shm_program::{Values, open_world, run_line};
 use shm_text::{Script, read_script};

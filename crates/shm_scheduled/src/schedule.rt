@@ -9,7 +9,7 @@ ghost use Rattle.shm_outcomes.specs.Search.{AreOutcomes};
 ghost use Rattle.shm_scheduled.specs.Scheduled.{AreSerial, IsClear, IsScheduled};
 
 use shm_base::Event;
-use shm_pager::Pager;
+use shm_pager_core::Pager;
 use shm_schedules::Finding;
 use shm_text::Script;
 use shm_threads::Outcome;

@@ -3,7 +3,7 @@ ghost use Rattle.std.specs.Prelude.{◌≡◌, IfOk};
 
 use crate::segments::Segments;
 use shm_base::HostMemory;
-use shm_pager::ClonePager;
+use shm_pager_core::ClonePager;
 
 impl<P: ClonePager> Segments<P> {
     /// A copy of the segments, with their own memory and swap areas. HostMemory: the host refused memory.

@@ -8,7 +8,7 @@ ghost use Rattle.shm_fault.specs.Store.{held};
 
 use crate::segments::Segments;
 use shm_base::PageRef;
-use shm_pager::{ComingFailure, FailPager, FailRefused};
+use shm_pager_core::{ComingFailure, FailPager, FailRefused};
 
 impl<P: FailPager> Segments<P> {
     /// Makes a call of an area to come fail, as [`PageStore::fail`](shm_fault::PageStore::fail) does.

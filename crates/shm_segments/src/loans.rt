@@ -10,7 +10,7 @@ ghost use Rattle.shm_segments.specs.View.{KeepsMemory};
 
 use crate::segments::Segments;
 use shm_base::{PageRef, Span};
-use shm_pager::Pager;
+use shm_pager_core::Pager;
 
 impl<P: Pager> Segments<P> {
     /// The page of a span.

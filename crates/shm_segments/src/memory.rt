@@ -5,7 +5,7 @@ ghost use Rattle.shm_base.specs.Segments.{reserved};
 ghost use Rattle.shm_base.specs.Spans.{span_places};
 ghost use Rattle.shm_fault.specs.Allowed.{IsAccess};
 ghost use Rattle.shm_base.specs.declared.bounds.TheConstants.{MOST_AREAS};
-ghost use Rattle.shm_pager.specs.Pages.{pager_seen};
+ghost use Rattle.shm_pager_core.specs.Pages.{pager_seen};
 ghost use Rattle.shm_slots.specs.View.{IsAreaSize, area_at, fresh, sizes, swap_slots, with_new};
 ghost use Rattle.shm_fault.specs.Store.{Still, held};
 ghost use Rattle.shm_fault.specs.Access.{NameFrames, IsUntouched, answer_of};
@@ -19,7 +19,7 @@ ghost use Rattle.shm_segments.specs.View.{IsTableExact, KeepsMemory};
 use crate::segments::Segments;
 use shm_base::{FlushReport, HostMemory, Span};
 use shm_fault::{Act, PageStore, PagerFailed, Touched};
-use shm_pager::{Pager, PagerFault};
+use shm_pager_core::{Pager, PagerFault};
 use std::alloc::Global;
 
 impl<P: Pager> Segments<P> {

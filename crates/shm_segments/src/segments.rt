@@ -17,7 +17,7 @@ use crate::head::{Found, Head};
 use shm_base::{Errno, HostMemory, INDEXES, MODES, ShmId, pages_of};
 use shm_fault::PageStore;
 use shm_ids::{IdTable, LookRefused};
-use shm_pager::Pager;
+use shm_pager_core::Pager;
 use shm_slots::Swap;
 use std::alloc::Global;
 use std::marker::Model;

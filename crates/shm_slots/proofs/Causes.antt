@@ -7,7 +7,7 @@ use Rattle.std.proofs.lemmas.Grind.{common_steps}
 use Rattle.std.proofs.lemmas.List.Elements.{All-head, All-tail}
 use Rattle.std.proofs.lemmas.List.Sums.{sum_by-cons}
 use Rattle.std.specs.List.{list_all, list_any}
-use Rattle.shm_pager.specs.Pages.{last_count}
+use Rattle.shm_pager_core.specs.Pages.{last_count}
 use Rattle.shm_slots.specs.Cause.{Counts, some_spent, total, most_total, had_cause, GoesOn}
 use Rattle.shm_slots.specs.View.{area_at, size_of, sizes, AreaView, SwapView, no_area, rise, most_rise, is_spent, is_spent_here, is_finite, are_finite, IsSwap, IsCounted, AreCountsOf}
 

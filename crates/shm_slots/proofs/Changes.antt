@@ -6,7 +6,7 @@ use Rattle.std.proofs.lemmas.Result.{IfErr-weaker}
 use Rattle.std.proofs.lemmas.List.{set_past, get_or_default, get_or_read, map-set}
 use Rattle.std.proofs.lemmas.Grind.{common_steps}
 use Rattle.shm_base.specs.declared.paging.PageRef.{PageRef}
-use Rattle.shm_pager.specs.Pages.{SideCalls}
+use Rattle.shm_pager_core.specs.Pages.{SideCalls}
 use Rattle.shm_base.specs.declared.bounds.TheConstants.{MOST_AREAS}
 use Rattle.shm_slots.specs.View.{AreaView, SwapView, area_at, no_area, is_spent, size_of, sizes, with_area, with_calls, with_calls_at, with_new, with_page, with_owner, off, HasSlot, CountedFault, IsArea, IsSwap, SameSlots}
 use Rattle.shm_slots.specs.Cause.{some_spent, total, had_cause, Counts, GoesOn, IsSteady}

@@ -7,8 +7,8 @@ use Rattle.std.proofs.lemmas.List.Sums.{sum_by-set}
 use Rattle.std.proofs.lemmas.Result.{IfErr-weaker, IfOk-weaker}
 use Rattle.shm_base.specs.declared.paging.PageRef.{PageRef}
 use Rattle.shm_base.specs.declared.paging.Slot.{Slot}
-use Rattle.shm_pager.specs.Pages.{SideCalls}
-use Rattle.shm_pager.specs.declared.pager.PagerFault.{PagerFault}
+use Rattle.shm_pager_core.specs.Pages.{SideCalls}
+use Rattle.shm_pager_core.specs.declared.pager.PagerFault.{PagerFault}
 use Rattle.shm_slots.proofs.Causes.{GoesOn-trans, failures-after}
 use Rattle.shm_slots.proofs.Rows.{owners-kept}
 use Rattle.shm_slots.proofs.Slots.{OnlySlot, OnlySlot-given, OnlySlot-owner, OnlySlot-page, OnlySlot-trans, cases_slot, owner-given, owner-set, owner-written, page-written}

@@ -7,7 +7,7 @@ use Rattle.std.proofs.lemmas.List.{ext_get_or, length-map, map-set, set-get_or}
 use Rattle.std.proofs.lemmas.Grind.{common_steps}
 use Rattle.shm_base.specs.declared.paging.PageRef.{PageRef}
 use Rattle.shm_base.specs.declared.paging.Slot.{Slot}
-use Rattle.shm_pager.specs.Pages.{SideCalls}
+use Rattle.shm_pager_core.specs.Pages.{SideCalls}
 use Rattle.shm_slots.specs.Moving.{area_owners, own_slot, slot_owners}
 use Rattle.shm_slots.specs.View.{AreaView, SwapView, AfterWriteFault, IsArea, IsFirstFree, OneArea, SameSlots, area_at, no_area, with_slot_owner, with_slot_page, without_slot}
 

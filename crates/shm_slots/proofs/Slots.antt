@@ -5,7 +5,7 @@ use Rattle.std.proofs.lemmas.Bool.Decides.{nat_tests}
 use Rattle.std.proofs.lemmas.Grind.{common_steps}
 use Rattle.shm_base.specs.declared.paging.PageRef.{PageRef}
 use Rattle.shm_base.specs.declared.paging.Slot.{Slot}
-use Rattle.shm_pager.specs.Pages.{SideCalls}
+use Rattle.shm_pager_core.specs.Pages.{SideCalls}
 use Rattle.shm_slots.specs.View.{AreaView, AfterWriteFault, HasSlot, OneArea, SwapView, area_at, owner_of, page_in, with_calls, with_owner, with_page, with_slot_owner, with_slot_page, without_slot}
 
 pub set-cases : {A : Type 0} (xs : List A) (i : ℕ) (x d : A) (j : ℕ) → ((j ≡ i) × (get_or (set xs i x) j d ≡ x)) ⊎ (get_or (set xs i x) j d ≡ get_or xs j d)

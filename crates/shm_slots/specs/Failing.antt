@@ -1,10 +1,10 @@
 -- Failures of calls to come, which are added to an area while it is in use.
 use Rattle.std.specs.Prelude.{ℕ, ◌≡◌, ◌<◌, ◌≤◌, ◌⊎◌, Bool, true, false, ◌&&◌, nat_le, Result, IfErr}
-use Rattle.shm_pager.specs.Pages.{last_count}
-use Rattle.shm_pager.specs.Failing.{calls_failing, calls_with_bad, is_left}
-use Rattle.shm_pager.specs.declared.failing.ComingFailure.{ComingFailure}
-use Rattle.shm_pager.specs.declared.failing.FailRefused.{FailRefused}
-use Rattle.shm_pager.specs.declared.failing.FailRefused.TheVariants.{NotThere, HostMemory}
+use Rattle.shm_pager_core.specs.Pages.{last_count}
+use Rattle.shm_pager_core.specs.Failing.{calls_failing, calls_with_bad, is_left}
+use Rattle.shm_pager_core.specs.declared.failing.ComingFailure.{ComingFailure}
+use Rattle.shm_pager_core.specs.declared.failing.FailRefused.{FailRefused}
+use Rattle.shm_pager_core.specs.declared.failing.FailRefused.TheVariants.{NotThere, HostMemory}
 use Rattle.shm_slots.specs.View.{AreaView, SwapView, area_at, with_area}
 
 -- the area is active, and calls count from 1

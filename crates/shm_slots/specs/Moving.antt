@@ -2,7 +2,7 @@
 use Rattle.std.specs.Prelude.{ℕ, ◌≡◌, ◌≢◌, ◌+◌, ◌<◌, List, [], map, set, get_or, length, Option, Some, None, Result, IfOk, OnErr, is_ok}
 use Rattle.shm_base.specs.declared.paging.PageRef.{PageRef}
 use Rattle.shm_base.specs.declared.paging.Slot.{Slot}
-use Rattle.shm_pager.specs.declared.pager.PagerFault.{PagerFault}
+use Rattle.shm_pager_core.specs.declared.pager.PagerFault.{PagerFault}
 use Rattle.shm_slots.specs.View.{AreaView, SwapView, HasSlot, IsFirstFree, IsSwap, area_at, owner_of, page_in, sizes, swap_slots, used_in, used_slots}
 use Rattle.shm_slots.specs.Cause.{Counts, GoesOn}
 

@@ -5,7 +5,7 @@ use Rattle.shm_base.specs.declared.paging.PageRef.{PageRef}
 use Rattle.shm_base.specs.declared.paging.Slot.{Slot}
 pub use Rattle.shm_base.specs.Segments.{slots_in}
 use Rattle.shm_base.specs.Segments.{slots}
-use Rattle.shm_pager.specs.Pages.{PagerView, SideCalls, SlotUnknown, last_count}
+use Rattle.shm_pager_core.specs.Pages.{PagerView, SideCalls, SlotUnknown, last_count}
 use Rattle.shm_slots.specs.Owners.{used_count}
 use Rattle.shm_base.specs.declared.bounds.TheConstants.{MOST_AREAS, MOST_SLOTS}
 

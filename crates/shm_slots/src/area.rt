@@ -1,11 +1,11 @@
 //! One swap area: its pager while it has one, and the owner of each slot.
 ghost use Rattle.std.specs.Prelude.{◌≡◌, ◌<◌, ◌≤◌, [], length, get_or, Some, None, IfOk, IfErr, OnErr, OnOk};
-ghost use Rattle.shm_pager.specs.Pages.{pager_seen, SlotUnknown};
+ghost use Rattle.shm_pager_core.specs.Pages.{pager_seen, SlotUnknown};
 ghost use Rattle.shm_slots.specs.Owners.{IsLeastFree};
 
 use crate::owners::Owners;
 use shm_base::{HostMemory, PAGE_BYTES, PageRef};
-use shm_pager::{
+use shm_pager_core::{
     ClonePager, ComingFailure, FailPager, FailRefused, Pager, PagerFault, try_read, try_write,
 };
 use std::alloc::{AllocError, Global};

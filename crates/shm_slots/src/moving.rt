@@ -5,7 +5,7 @@ ghost use Rattle.shm_slots.specs.Moving.{HasFreeOutside, Relocates};
 
 use crate::swap::Swap;
 use shm_base::{PAGE_BYTES, PageRef, Slot, zeros};
-use shm_pager::{Pager, PagerFault};
+use shm_pager_core::{Pager, PagerFault};
 
 impl<P: Pager> Swap<P> {
     // Writes a page to the least free slot of the lowest-numbered other area that has one, and gives its slot

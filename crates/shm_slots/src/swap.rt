@@ -1,12 +1,12 @@
 //! All swap areas. A slot has one owner or none. Areas and slots have numbers, which do not change when
 //! another area is dropped.
 ghost use Rattle.std.specs.Prelude.{◌≡◌, ◌+◌, ◌<◌, ◌≤◌, ◌&&◌, [], length, set, map, min, true, false, not, Some, None, All, is_ok, IfOk, IfErr, OnErr, OnOk, IfNone, EachIndex};
-ghost use Rattle.shm_pager.specs.Pages.{pager_seen, last_count};
+ghost use Rattle.shm_pager_core.specs.Pages.{pager_seen, last_count};
 ghost use Rattle.shm_slots.specs.View.{is_spent};
 
 use crate::area::Area;
 use shm_base::{HostMemory, PAGE_BYTES, PageRef, Slot};
-use shm_pager::{ClonePager, ComingFailure, FailPager, FailRefused, Pager, PagerFault};
+use shm_pager_core::{ClonePager, ComingFailure, FailPager, FailRefused, Pager, PagerFault};
 use std::alloc::Global;
 use std::marker::Model;
 

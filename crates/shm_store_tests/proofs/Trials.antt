@@ -6,7 +6,7 @@ use Rattle.std.proofs.lemmas.List.{length-replicate}
 use Rattle.std.proofs.lemmas.Grind.{common_steps}
 use Rattle.shm_base.specs.declared.paging.PageRef.{PageRef}
 use Rattle.shm_base.specs.declared.paging.Span.{Span}
-use Rattle.shm_pager.specs.Pages.{PagerView}
+use Rattle.shm_pager_core.specs.Pages.{PagerView}
 use Rattle.shm_fault.specs.Held.{Held, held_id, FitsPage, pages_in_store, written, with_zeros}
 use Rattle.shm_slots.specs.View.{AreaView, SwapView, fresh, new_swap, owner_of, size_of}
 use Rattle.shm_frames.specs.Frame.{Frame}

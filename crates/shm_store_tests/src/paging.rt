@@ -8,7 +8,8 @@ ghost use Rattle.shm_store_tests.specs.Trial.{HasThree};
 
 use shm_base::{FlushReport, HostMemory, Span};
 use shm_fault::{PageStore, PageTally};
-use shm_pager::{ClonePager, FusePager, Pager, RamPager};
+use shm_pager::{FusePager, RamPager};
+use shm_pager_core::{ClonePager, Pager};
 use shm_pager_tests::fuse;
 use shm_slots::Swap;
 use std::alloc::{AllocError, Global};

@@ -4,7 +4,8 @@ ghost use Rattle.shm_slots.specs.View.{HasSlot};
 
 use crate::paging::{is_area, two_rams};
 use shm_base::{HostMemory, PageRef, Slot};
-use shm_pager::{AnyPager, FusePager, Pager, RamPager};
+use shm_pager::{FusePager, RamPager};
+use shm_pager_core::{AnyPager, Pager};
 use shm_pager_tests::{CountedRam, Counter, fuse, fuse_at};
 use shm_slots::Swap;
 use std::alloc::{AllocError, Global};

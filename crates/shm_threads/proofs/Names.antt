@@ -49,7 +49,7 @@ pub use Rattle.shm_laws.proofs.Refusing.{by-move}
 pub use Rattle.shm_laws.specs.Pieces.{hands_pieces}
 pub use Rattle.shm_life.proofs.Asking.{by-shmget, pick}
 pub use Rattle.shm_life.specs.Start.{are_pids}
-pub use Rattle.shm_pager.specs.declared.pager.Pager.{Ghosts}
+pub use Rattle.shm_pager_core.specs.declared.pager.Pager.{Ghosts}
 pub use Rattle.shm_slots.proofs.Causes.{GoesOn-refl, GoesOn-trans}
 pub use Rattle.shm_text.specs.Form.{CommandView}
 pub use Rattle.shm_text.specs.Script.{ScriptView}

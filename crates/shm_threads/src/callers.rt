@@ -9,7 +9,7 @@ use crate::gate::Gate;
 use crate::origin::Origin;
 use crate::shared::Shared;
 use crate::worker::{Caller, work};
-use shm_pager::Pager;
+use shm_pager_core::Pager;
 use shm_text::{Command, Line};
 use std::sync::Wait;
 

@@ -5,7 +5,7 @@ ghost use Rattle.shm_threads.specs.Ends.{comes_before, ended_by, least};
 use crate::transcript::Transcript;
 use shm_base::HostMemory;
 use shm_history::World;
-use shm_pager::Pager;
+use shm_pager_core::Pager;
 use thiserror::Error;
 
 /// The world after a run, and a transcript for each process of the script, in the script's order.

@@ -22,7 +22,7 @@ use crate::strand::{Strand, strands};
 use crate::transcript::Transcript;
 use shm_base::HostMemory;
 use shm_history::{Keeper, World};
-use shm_pager::Pager;
+use shm_pager_core::Pager;
 use shm_text::Script;
 use std::alloc::Global;
 use std::marker::Brand;

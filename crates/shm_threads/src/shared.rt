@@ -23,7 +23,7 @@ use crate::start::Refused;
 use crate::strand::{Made, Strand, make};
 use crate::transcript::Transcript;
 use shm_history::{Keeper, World};
-use shm_pager::Pager;
+use shm_pager_core::Pager;
 use shm_text::{Command, Line};
 use std::marker::{Model, PhantomData};
 use std::sync::{Condvar, Mutex, MutexGuard, Wait};

@@ -8,7 +8,7 @@ use crate::gate::Gate;
 use crate::origin::Origin;
 use crate::outcome::RunError;
 use crate::shared::Shared;
-use shm_pager::Pager;
+use shm_pager_core::Pager;
 use shm_text::Line;
 use std::sync::Wait;
 use std::thread::{JoinHandle, Scope, Threads};

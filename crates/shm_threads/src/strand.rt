@@ -8,7 +8,7 @@ use crate::lines::{callers, count};
 use crate::transcript::Answer;
 use shm_base::{Call, HostMemory, Reply};
 use shm_history::World;
-use shm_pager::Pager;
+use shm_pager_core::Pager;
 use shm_text::{Command, Script, Vars};
 use std::alloc::Global;
 

@@ -6,7 +6,8 @@ use shm_base::{
     Step, Tally,
 };
 use shm_history::{Gauge, GaugeRefused, Keeper, ReaderSeat, Reading, System, World, gauge};
-use shm_pager::{FusePager, Pager, RamPager};
+use shm_pager::{FusePager, RamPager};
+use shm_pager_core::Pager;
 use std::alloc::Global;
 use std::process::Abort;
 use std::sync::Wait;

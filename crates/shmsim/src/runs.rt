@@ -6,7 +6,7 @@ ghost use Rattle.shmsim.specs.Words.{asked_of};
 
 use crate::command::{Asked, Mode, Stop, read_words};
 use shm_base::HostMemory;
-use shm_pager::Pager;
+use shm_pager_core::Pager;
 use shm_program::{RunFault, areas_of};
 use shm_runner::{run_serial, run_threaded};
 use std::alloc::Global;

@@ -11,7 +11,7 @@ use crate::steps::Steps;
 use shm_base::HostMemory;
 use shm_history::World;
 use shm_laws::lawful;
-use shm_pager::Pager;
+use shm_pager_core::Pager;
 use shm_program::{Action, Values, push_step, run_line};
 use shm_text::Script;
 use std::alloc::Global;

@@ -11,7 +11,7 @@ use crate::steps::{MOST_STEPS, Steps};
 use crate::stop::Stop;
 use shm_base::HostMemory;
 use shm_history::World;
-use shm_pager::Pager;
+use shm_pager_core::Pager;
 use shm_program::{RunFault, open_world, whole_script, write_output};
 use shm_text::Script;
 use std::alloc::Global;

@@ -1,6 +1,6 @@
 use Rattle.std.proofs.lemmas.Grind.{common_steps}
 use Rattle.std.proofs.Common.{◌≡◌, ap, arith}
-use Rattle.shm_pager.specs.Pages.{pager_seen}
+use Rattle.shm_pager_core.specs.Pages.{pager_seen}
 use Rattle.shm_fault.specs.Held.{with_zeros}
 use Rattle.shm_fault.specs.Store.{held, fresh_store}
 use Rattle.shm_store_tests.proofs.Trials.{fresh-free, fresh-held, added}

@@ -2,12 +2,12 @@ use Rattle.std.proofs.Common.{ap, ◌≡◌, ◌∙◌, length, subst}
 use Rattle.std.proofs.lemmas.List.{length-replicate}
 use Rattle.shm_base.specs.Page.{zero_page}
 use Rattle.shm_pager.specs.Areas.{area_pages}
-use Rattle.shm_pager.specs.Pages.{PagerView}
+use Rattle.shm_pager_core.specs.Pages.{PagerView}
 use Rattle.shm_pager.proofs.Made.{made-seen}
 use Rattle.shm_slots.specs.View.{fresh}
 use Rattle.shm_life.specs.Enlarging.{IsEnlarged}
 use Rattle.shm_machine.specs.Opened.{failing_at, pager_made}
-use Rattle.shm_pager.specs.declared.failing.Side.TheVariants.{Left, Right}
+use Rattle.shm_pager_core.specs.declared.failing.Side.TheVariants.{Left, Right}
 use Rattle.shm_machine.proofs.machine.Machine.add_area.Goals as goal
 
 pub returns : goal.returns

@@ -1,6 +1,7 @@
 use Rattle.std.proofs.Common.{◌≤◌, arith}
-use Rattle.shm_pager.specs.Pages.{last_count, pager_seen}
-use Rattle.shm_pager.specs.Fuse.{FuseView, places}
+use Rattle.shm_pager_core.specs.Pages.{last_count, pager_seen}
+use Rattle.shm_pager_core.specs.Failing.{places}
+use Rattle.shm_pager.specs.Fuse.{FuseView}
 use Rattle.shm_pager.proofs.Later.{later-reads, later-writes}
 use Rattle.shm_pager.proofs.fuse.FusePager.list_failure.Goals as goal
 

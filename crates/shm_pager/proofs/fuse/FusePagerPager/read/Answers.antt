@@ -1,5 +1,5 @@
 use Rattle.std.proofs.Common.{◌≡◌, ◌||◌, refl, ◌≤◌, ◌∙◌, ap, sym, arith}
-use Rattle.shm_pager.specs.Pages.{last_count, pager_seen}
+use Rattle.shm_pager_core.specs.Pages.{last_count, pager_seen}
 use Rattle.shm_pager.specs.Fuse.{FuseView}
 use Rattle.shm_pager.proofs.Bounds.{bad_read, most-read, most-unread}
 use Rattle.shm_pager.proofs.fuse.FusePagerPager.read.Goals as goal

@@ -1,6 +1,6 @@
 use Rattle.std.proofs.Common.{◌≤◌, ◌+◌, ◌∙◌, sym, arith}
 use Rattle.std.proofs.lemmas.Grind.{common_steps}
-use Rattle.shm_pager.specs.Pages.{last_count, pager_seen}
+use Rattle.shm_pager_core.specs.Pages.{last_count, pager_seen}
 use Rattle.shm_pager.specs.Fuse.{FuseView}
 use Rattle.shm_pager.proofs.Bounds.{bounded-fuse, most-written, most-unwritten}
 use Rattle.shm_pager.proofs.fuse.FusePagerPager.write.Goals as goal

@@ -1,7 +1,7 @@
 use Rattle.std.proofs.Common.{arith, rules, ◌≡◌, ◌∙◌, false, sym, ap, refl}
 use Rattle.std.proofs.lemmas.Bool.{and_parts, false≢true}
 use Rattle.std.proofs.lemmas.Grind.{common_steps}
-use Rattle.shm_pager.specs.Pages.{pager_seen}
+use Rattle.shm_pager_core.specs.Pages.{pager_seen}
 use Rattle.shm_pager.specs.Mirror.{MirrorView, MirrorSeen, mirror_seen, left_asked}
 use Rattle.shm_pager.specs.declared.mirror.Good.{Good}
 use Rattle.shm_pager.proofs.Merged.{length-merged, get_or-merged, good-found, merging}

@@ -1,5 +1,5 @@
 use Rattle.std.proofs.Common.{◌≡◌, take, min, sum_by, All}
-use Rattle.shm_pager.specs.Pages.{last_count}
+use Rattle.shm_pager_core.specs.Pages.{last_count}
 use Rattle.shm_slots.specs.View.{rise, IsCounted}
 use Rattle.shm_slots.proofs.swap.Swap.failures.Given as goal
 

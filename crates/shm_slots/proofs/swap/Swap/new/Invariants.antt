@@ -1,6 +1,6 @@
 use Rattle.std.proofs.Common.{◌≡◌, ℕ, map, not, ◌++◌, get_or}
 use Rattle.std.specs.List.{list_any}
-use Rattle.shm_pager.specs.Pages.{pager_seen}
+use Rattle.shm_pager_core.specs.Pages.{pager_seen}
 use Rattle.shm_slots.specs.View.{fresh, is_spent, no_area, IsArea}
 use Rattle.shm_slots.proofs.swap.Swap.new.Given as goal
 

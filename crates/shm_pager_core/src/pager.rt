@@ -1,8 +1,8 @@
 //! What each pager promises. A pager that broke its promise could change bytes of segments. One that fails in
 //! the ways named here can not.
-ghost use Rattle.std.specs.Prelude.{◌≡◌, ℕ, ◌<◌, ◌≤◌, ◌&&◌, true, false, List, [], length, set, get_or, replicate, is_ok, IfOk};
+ghost use Rattle.std.specs.Prelude.{◌≡◌, ℕ, ◌<◌, ◌≤◌, List, [], length, set, get_or, replicate, is_ok, IfOk};
 ghost use Rattle.shm_base.specs.Page.{zero_page};
-ghost use Rattle.shm_pager.specs.Pages.{SideCalls, last_count, pager_seen, served, SlotUnknown, CountsErr, KeepsMost, TriesWrite, TriesRead};
+ghost use Rattle.shm_pager_core.specs.Pages.{SideCalls, last_count, pager_seen, served, SlotUnknown, CountsErr, KeepsMost, TriesWrite, TriesRead};
 
 use shm_base::{HostMemory, PAGE_BYTES};
 use thiserror::Error;
@@ -119,25 +119,6 @@ pub fn try_read<P: Pager>(
         return Err(PagerFault);
     }
     pager.read(slot, page)
-}
-
-/// As [`try_read`]; if `asked` is false, the pager is not called, and the read fails.
-pub(crate) fn read_if<P: Pager>(
-    asked: bool,
-    pager: &mut P,
-    slot: u32,
-    page: &mut [u8; PAGE_BYTES],
-) -> bool
-    requires { slot < length (P.content pager.old) }
-    ensures asked { let view = pager_seen P.content P.failed P.most P.calls in
-        asked ≡ true → TriesRead (view pager.old) (view pager.new) }
-    ensures unasked { asked ≡ false → pager.new ≡ pager.old }
-    ensures content { P.content pager.new ≡ P.content pager.old }
-    ensures served { let view = pager_seen P.content P.failed P.most P.calls in
-        result ≡ (asked && served (view pager.old) (view pager.new)) }
-    ensures page { result ≡ true → get_or (P.content pager.old) slot [] ≡ page.new }
-{
-    asked && try_read(pager, slot, page).is_ok()
 }
 
 /// A pager of a kind that is not known at compile time. Code over pagers is generic, and this is one of its

@@ -1,7 +1,7 @@
 //! Failures of calls to come, which are added while a pager is in use.
 ghost use Rattle.std.specs.Prelude.{◌≡◌, ◌<◌, length, true, Bool, OnErr, OnOk};
-ghost use Rattle.shm_pager.specs.Failing.{FailsLater, calls_failing, endless, IsRefusedFailure, is_to_come};
-ghost use Rattle.shm_pager.specs.Pages.{pager_seen};
+ghost use Rattle.shm_pager_core.specs.Failing.{FailsLater, calls_failing, endless, IsRefusedFailure, is_to_come};
+ghost use Rattle.shm_pager_core.specs.Pages.{pager_seen};
 
 use crate::pager::Pager;
 use shm_base::HostMemory;
@@ -27,7 +27,7 @@ pub struct ComingFailure {
 impl ComingFailure {
     /// Whether it is a call to come, of a side that a pager has: of the left side, or of any if there is a
     /// right one.
-    pub(crate) fn is_to_come(&self, has_right: bool) -> bool
+    pub fn is_to_come(&self, has_right: bool) -> bool
         ensures { result ≡ is_to_come has_right self.now }
     {
         self.call >= 1 && (has_right || self.side == Side::Left)

@@ -16,7 +16,7 @@ use Rattle.shm_base.specs.Bounds.{profile}
 use Rattle.shm_base.specs.State.{Machine, start_of}
 use Rattle.shm_base.specs.Step.{step}
 use Rattle.shm_base.specs.Guest.{admits, dismisses, releases, reserves}
-use Rattle.shm_base.specs.Rows.{does, id, mode, rdonly, shmget, shmat, stat, shows, process, child, of_processes}
+use Rattle.shm_rows.specs.Rows.{does, id, mode, rdonly, shmget, shmat, stat, shows, process, child, of_processes}
 
 -- a call at its time, or a change by the host, with its reply or its refusal
 pub data Deed : Type 0 where

@@ -6,8 +6,8 @@ use Rattle.shm_base.specs.declared.call.Reply.TheVariants.{Addr, Done, Refused}
 use Rattle.shm_base.specs.declared.call.Process.{Process}
 use Rattle.shm_base.specs.State.{Machine, start_of}
 use Rattle.shm_base.specs.Bounds.{profile}
-use Rattle.shm_base.specs.GuestRows.{Go, At}
-use Rattle.shm_base.specs.Rows.{Answers, does, id, mode, creat, rdonly, rnd, remap, shmget, shmat, stat, shows, process, child}
+use Rattle.shm_rows.specs.GuestRows.{Go, At}
+use Rattle.shm_rows.specs.Rows.{Answers, does, id, mode, creat, rdonly, rnd, remap, shmget, shmat, stat, shows, process, child}
 
 -- the machine of the other rows, with these rules, this memlock and this limit of pieces
 abbrev pub ruled : ℕ → ℕ → ℕ → List Process → Machine

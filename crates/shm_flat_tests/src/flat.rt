@@ -49,7 +49,7 @@ struct Place {
 
 /// The machine: two processes of user 0 and a child that is not born yet, over two swap areas.
 #[derive(Drop)]
-pub(crate) struct Flat {
+pub struct Flat {
     alloc: Global,
     /// The place of the last call in the history.
     now: u64,
@@ -167,7 +167,7 @@ fn made(key: u32, mode: u16, size: u64, pid: u32, now: u64) -> ShmidDs {
 
 impl Flat {
     /// The machine before the first call.
-    pub(crate) fn new(alloc: Global) -> Result<Flat, Fail> {
+    pub fn new(alloc: Global) -> Result<Flat, Fail> {
         let mut live = Vec::new(alloc);
         live.push(1)?;
         live.push(2)?;
@@ -182,12 +182,12 @@ impl Flat {
     }
 
     /// Skips a call that a pager's failure refused: it has its place in the history, and changes nothing.
-    pub(crate) fn passes_over(&mut self) {
+    pub fn passes_over(&mut self) {
         self.now = self.now.wrapping_add(1);
     }
 
     /// The expected reply to the next call of the history.
-    pub(crate) fn answer(&mut self, pid: u32, call: &Call) -> Result<Reply, Fail> {
+    pub fn answer(&mut self, pid: u32, call: &Call) -> Result<Reply, Fail> {
         self.now = self.now.wrapping_add(1);
         if !self.live.contains(&pid) {
             return Ok(Reply::Refused(Errno::Esrch));
@@ -664,7 +664,7 @@ impl Flat {
     }
 
     /// The live segment at an index: its identifier, what `stat` shows, and its bytes.
-    pub(crate) fn segment(&self, index: u32) -> Option<(ShmId, ShmidDs, &[u8])> {
+    pub fn segment(&self, index: u32) -> Option<(ShmId, ShmidDs, &[u8])> {
         for segment in &self.segments {
             if segment.index == index && segment.is_live {
                 return Some((segment.id, segment.shown, segment.bytes.as_slice()));
